@@ -1,0 +1,6 @@
+//! The plain data that every crate of this project shares.
+#![tactic(auto)]
+
+mod list;
+
+pub use list::List;

@@ -1,0 +1,15 @@
+pub mod Counting
+pub mod Divisibility
+pub mod Examples
+pub mod Fractions
+pub mod Gcd
+pub mod Laws
+pub mod LexOrder
+pub mod Lexicographic
+pub mod Order
+pub mod Pivot
+pub mod Polynomial
+pub mod Ring
+pub mod Vector
+pub mod VectorLaws
+pub mod VectorOrder

@@ -1,0 +1,47 @@
+-- What a judgement changes.
+use Rattle.std.proofs.Common.{Bool, ◌≡◌, ℕ, ◌≤◌, refl, ◌<◌, true, false, length, get_or, sym, ap, ◌∙◌}
+use Rattle.std.proofs.lemmas.List.{get_or-set_same, get_or-set_other, get_or-replicate, length-replicate, length-set}
+use Rattle.std.proofs.lemmas.List.Elements.{All-replicate, All-set}
+use Rattle.judgement_matrix.specs.Range.{Bounds, full}
+use Rattle.judgement_matrix.specs.Matrix.{Judgements, IsMatrix, IsPair, pairs, place, cell_at, unjudged, judged}
+use Rattle.judgement_matrix.proofs.PlaceLemmas.{get_or-place, place-below}
+
+-- two pairs at one place are one pair
+pub place_injective : (n p q x y : ℕ) → IsPair n p q → IsPair n x y → place n x y ≡ place n p q → (x ≡ p) × (y ≡ q)
+place_injective n p q x y in_n at_n e =
+    let same = sym (get_or-place n x y (0, 0) at_n) ∙ ap (λ k. get_or (pairs n) k (0, 0)) e ∙ get_or-place n p q (0, 0) in_n in
+    (ap (λ pair. pair.0) same, ap (λ pair. pair.1) same)
+
+-- the pair that was judged
+pub cell_at-judged_here : (m : Judgements) (p q : ℕ) (range : Bounds) → length m.cells ≡ length (pairs m.size) → IsPair m.size p q → cell_at (judged m p q range) p q ≡ (range, true)
+cell_at-judged_here m p q range each in_n =
+    let below : place m.size p q < length m.cells = rw each (place-below m.size p q in_n) in
+    get_or-set_same m.cells (place m.size p q) (range, true) (full, false) below
+
+-- any other pair
+pub cell_at-judged_other : (m : Judgements) (p q x y : ℕ) (range : Bounds) → IsPair m.size p q → IsPair m.size x y → ¬ ((x ≡ p) × (y ≡ q)) → cell_at (judged m p q range) x y ≡ cell_at m x y
+cell_at-judged_other m p q x y range in_n at_n apart =
+    get_or-set_other m.cells (place m.size p q) (place m.size x y) (range, true) (full, false)
+    (λ e. apart (place_injective m.size p q x y in_n at_n e))
+
+-- each pair where nothing is judged
+pub cell_at-unjudged : (n p q : ℕ) → IsPair n p q → cell_at (unjudged n) p q ≡ (full, false)
+cell_at-unjudged n p q in_n = get_or-replicate (length (pairs n)) (place n p q) (full, false) (full, false) (place-below n p q in_n)
+
+-- a new matrix keeps what a matrix keeps
+pub IsMatrix-unjudged : (n : ℕ) → 1 ≤ n → n ≤ 24 → IsMatrix (unjudged n)
+IsMatrix-unjudged n least most = record {
+  least = least;
+  most = most;
+  each = length-replicate (length (pairs n)) (full, false);
+  unjudged_full = All-replicate (λ (cell : Bounds × Bool). cell.1 ≡ false → cell.0 ≡ full) (length (pairs n)) (full, false) (λ _. refl);
+}
+
+-- and so does one more judgement
+pub IsMatrix-judged : (m : Judgements) (p q : ℕ) (range : Bounds) → IsMatrix m → IsMatrix (judged m p q range)
+IsMatrix-judged m p q range h = record {
+  least = h.least;
+  most = h.most;
+  each = length-set m.cells (place m.size p q) (range, true) ∙ h.each;
+  unjudged_full = All-set (λ (cell : Bounds × Bool). cell.1 ≡ false → cell.0 ≡ full) m.cells (place m.size p q) (range, true) (λ e. cc) h.unjudged_full;
+}

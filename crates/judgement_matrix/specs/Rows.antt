@@ -1,0 +1,62 @@
+-- The constraints of a matrix as tagged rows, in row order, and the first of them that a scale fails.
+use Rattle.std.specs.Prelude.{◌≡◌, ℕ, ◌+◌, ◌-◌, ◌<◌, ◌≤◌, ℤ, pos, ◌-ℤ◌, ◌*ℤ◌, ◌≤ℤ◌, List, ◌∷◌, ◌++◌, map, filter, nat_lt, nat_le, ◌==◌}
+use Rattle.std.specs.List.{flat_map, range_with_len, AllByRecursion}
+use Rattle.judgement_matrix.specs.Matrix.{Judgements, IsPair, pairs, range_at}
+use Rattle.judgement_matrix.specs.Scale.{difference, IsMetBy}
+use Rattle.judgement_matrix.specs.declared.tag.Tag.{Tag}
+use Rattle.judgement_matrix.specs.declared.tag.Tag.TheVariants.{Lower, Zero, Cross, Order}
+use Rattle.judgement_matrix.specs.declared.tag.Fit.{Fit}
+use Rattle.judgement_matrix.specs.declared.tag.Fit.TheVariants.{Meets, Fails}
+
+-- each pair whose range begins at 1 or above
+abbrev pub lower_rows : Judgements → List Tag
+lower_rows m = map (λ pair. Lower pair.0 pair.1) (filter (λ pair. nat_le 1 (range_at m pair.0 pair.1).lo) (pairs m.size))
+
+-- each pair whose range is 0 alone
+abbrev pub zero_rows : Judgements → List Tag
+zero_rows m = map (λ pair. Zero pair.0 pair.1) (filter (λ pair. (range_at m pair.0 pair.1).hi == 0) (pairs m.size))
+
+-- each pair, and for it each pair whose range lies wholly below its own
+abbrev pub cross_rows : Judgements → List Tag
+cross_rows m = flat_map (λ left. map (λ right. Cross left.0 left.1 right.0 right.1)
+    (filter (λ right. nat_lt (range_at m right.0 right.1).hi (range_at m left.0 left.1).lo) (pairs m.size))) (pairs m.size)
+
+-- each element but the last, against the next one
+abbrev pub order_rows : Judgements → List Tag
+order_rows m = map (λ p. Order p) (range_with_len 1 (m.size - 1))
+
+-- all rows, in row order
+abbrev pub rows : Judgements → List Tag
+rows m = lower_rows m ++ zero_rows m ++ cross_rows m ++ order_rows m
+
+-- the scale w over N satisfies the constraint of a row
+abbrev pub RowHolds : Judgements → List ℤ → ℕ → Tag → Type 0
+RowHolds m w N (Lower p q) = (pos N *ℤ pos (range_at m p q).lo) ≤ℤ difference w p q
+RowHolds m w N (Zero p q) = difference w p q ≤ℤ pos 0
+RowHolds m w N (Cross p q x y) = (pos N *ℤ (pos (range_at m p q).lo -ℤ pos (range_at m x y).hi)) ≤ℤ (difference w p q -ℤ difference w x y)
+RowHolds m w N (Order p) = pos 0 ≤ℤ difference w p (p + 1)
+
+-- tag is the first row in row order that the scale fails
+pub record IsFirstFailing (m : Judgements) (w : List ℤ) (N : ℕ) (tag : Tag) : Type 0 where
+  pub before : List Tag
+  pub after : List Tag
+  pub stands : rows m ≡ before ++ tag ∷ after
+  pub hold : AllByRecursion (RowHolds m w N) before
+  pub fails : ¬ RowHolds m w N tag
+
+-- what is to be answered for a scale
+abbrev pub IsFit : Judgements → List ℤ → ℕ → Fit → Type 0
+IsFit m w N Meets = IsMetBy m w N
+IsFit m w N (Fails tag) = IsFirstFailing m w N tag
+
+-- the positions of a tag are those of n elements
+abbrev pub IsTagAmong : ℕ → Tag → Type 0
+IsTagAmong n (Lower p q) = IsPair n p q
+IsTagAmong n (Zero p q) = IsPair n p q
+IsTagAmong n (Cross p q x y) = IsPair n p q × IsPair n x y
+IsTagAmong n (Order p) = (1 ≤ p) × (p < n)
+
+-- and so are those of the row that is named
+abbrev pub IsFitAmong : ℕ → Fit → Type 0
+IsFitAmong n Meets = Unit {0}
+IsFitAmong n (Fails tag) = IsTagAmong n tag

@@ -1,0 +1,32 @@
+-- When a scale meets a matrix. A scale is the list w of n whole numbers over one denominator N, its last number 0.
+-- After LP-MACBETH (Bana e Costa, De Corte and Vansnick 2005); the exact constraints are this project's own.
+use Rattle.std.specs.Prelude.{◌≡◌, All, ℕ, ◌-◌, ◌<◌, ℤ, pos, neg_ℤ, ◌-ℤ◌, ◌*ℤ◌, ◌≤ℤ◌, List, length, slice_index_or}
+use Rattle.judgement_matrix.specs.Matrix.{Judgements, IsPair, range_at}
+
+-- the number of element p, counted from 1
+abbrev pub value_at : List ℤ → ℕ → ℤ
+value_at w p = slice_index_or w (p - 1) (pos 0)
+
+-- d(p, q), how far p stands above q
+abbrev pub difference : List ℤ → ℕ → ℕ → ℤ
+difference w p q = value_at w p -ℤ value_at w q
+
+-- a number for each element, the last one 0
+pub record IsScale (m : Judgements) (w : List ℤ) : Type 0 where
+  pub each : length w ≡ m.size
+  pub last : value_at w m.size ≡ pos 0
+
+-- each number is from -10^9 to 10^9
+abbrev pub AllBounded : List ℤ → Type 0
+AllBounded w = All (λ v. (neg_ℤ (pos 1000000000) ≤ℤ v) × (v ≤ℤ pos 1000000000)) w
+
+-- the constraints with each bound multiplied by the unit, for all pairs
+pub record IsMetInUnit (m : Judgements) (unit : ℤ) (w : List ℤ) : Type 0 where
+  pub lower : (p q : ℕ) → IsPair m.size p q → (unit *ℤ pos (range_at m p q).lo) ≤ℤ difference w p q
+  pub zero : (p q : ℕ) → IsPair m.size p q → (range_at m p q).hi ≡ 0 → difference w p q ≤ℤ pos 0
+  pub cross : (p q x y : ℕ) → IsPair m.size p q → IsPair m.size x y → (range_at m x y).hi < (range_at m p q).lo
+      → (unit *ℤ (pos (range_at m p q).lo -ℤ pos (range_at m x y).hi)) ≤ℤ (difference w p q -ℤ difference w x y)
+
+-- the scale w over N meets the judgements
+abbrev pub IsMetBy : Judgements → List ℤ → ℕ → Type 0
+IsMetBy m w N = IsMetInUnit m (pos N) w

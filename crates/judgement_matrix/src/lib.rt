@@ -1,0 +1,16 @@
+//! Matrices of semantic judgements, and when a scale meets one.
+#![tactic(auto)]
+
+mod laws;
+mod matrix;
+mod meets;
+mod pairs;
+mod range;
+mod tag;
+
+pub use matrix::{LIMIT, Matrix, NoMemory};
+pub use range::Range;
+pub use tag::{Fit, Tag};
+
+#[cfg(test)]
+mod tests;

@@ -1,0 +1,4 @@
+pub mod OutsideLemmas
+pub mod LinesLemmas
+pub mod WindowLemmas
+pub mod CursorLemmas

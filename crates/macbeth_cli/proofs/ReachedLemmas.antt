@@ -1,0 +1,119 @@
+-- How far a session has come after some turns, and what its end tells.
+use Rattle.std.proofs.Common.{◌≡◌, ◌⊎◌, ℕ, ◌+◌, ◌-◌, ◌^◌, ◌<◌, ◌≤◌, Bool, true, false, List, [], ◌∷◌, ◌++◌, length, take, Option, Some, None, refl, sym, ap, ◌∙◌, subst, inl, inr, append_assoc, length-append, arith}
+use Rattle.std.specs.Prelude.{IfSome}
+use Rattle.std.proofs.lemmas.Bool.{true≢false}
+use Rattle.std.proofs.lemmas.List.{append-nil}
+use Rattle.line_io.specs.Outside.{Took, Put, Rose, IsAtEnd, PutsFront}
+use Rattle.line_io.specs.Lines.{Progress, start, Moves, Gives, IsOver, FailsToRead, ReachesLimit}
+use Rattle.line_io.proofs.OutsideLemmas.{Took-nil, Took-append, Took-same, Put-nil, Put-append, Rose-later, Rose-earlier}
+use Rattle.line_io.proofs.LinesLemmas.{Gives-smaller}
+use Rattle.session_edits.specs.State.{State}
+use Rattle.session_edits.specs.Answer.{Entry}
+use Rattle.macbeth_cli.specs.Entries.{entry_of, AreEntries}
+use Rattle.macbeth_cli.specs.Transcript.{is_quit, has_quit, up_to_quit, answer_text, Answers, Replies, IsTranscript}
+use Rattle.macbeth_cli.specs.Turn.{Written, IsAnswered, IsCutShort, EntryTurn, LineTurn, Turns}
+use Rattle.macbeth_cli.specs.Headline.{IsAtTheEnd, MayBeEnded, IsCutTranscript, IsFirstReplies, Tells, IsTold}
+use Rattle.macbeth_cli.specs.declared.status.Status.{Status}
+use Rattle.macbeth_cli.specs.declared.status.Status.TheVariants.{Done, BadWords, ReadFault, WriteFault, NoMemory, InputLimit}
+use Rattle.macbeth_cli.specs.declared.turn.Turn.TheVariants.{Goes, Ends}
+use Rattle.macbeth_cli.proofs.EntriesLemmas.{IsRead, reads_none, reads_more, reads_over, reads_open, GoesOn, goes_on}
+use Rattle.macbeth_cli.proofs.TranscriptLemmas.{Answers-append, Answers-one, answers_exist, up_to_quit-append, up_to_quit-all, up_to_quit-quit, has_quit-push, has_quit-found, take_answered}
+
+-- a source before and after some calls: what it tells, and its count of faults
+pub record Given : Type 0 where
+  pub left_old : Option (List ℕ)
+  pub left_new : Option (List ℕ)
+  pub faults_old : ℕ
+  pub faults_new : ℕ
+
+abbrev pub given : Option (List ℕ) → Option (List ℕ) → ℕ → ℕ → Given
+given left_old left_new m n = record { left_old = left_old; left_new = left_new; faults_old = m; faults_new = n }
+
+-- the end was seen by a take at the end, before the limit
+abbrev pub EndsRightly : Progress → Option (List ℕ) → Type 0
+EndsRightly p left = p.ended ≡ true → IsAtEnd left × (p.taken < 2 ^ 30)
+
+-- what was taken and written so far, the entries that it gave, and their answers
+pub record Reached (source : Given) (sink : Written) (p : Progress) (state : State) : Type 0 where
+  pub bytes : List ℕ
+  pub text : List ℕ
+  pub entries : List Entry
+  pub took : Took source.left_old source.left_new bytes
+  pub put : Put sink.held_old sink.held_new text
+  pub read : IsRead p.ended bytes entries p.in_hand
+  pub counted : p.taken ≡ length bytes
+  pub within : p.taken ≤ 2 ^ 30
+  pub no_fault : p.fault ≡ None
+  pub no_quit : has_quit entries ≡ false
+  pub answers : Answers None entries text state
+  pub ends : EndsRightly p source.left_new
+  pub source_faults : source.faults_old ≤ source.faults_new
+  pub sink_faults : sink.faults_old ≤ sink.faults_new
+
+pub reached_start : (left : Option (List ℕ)) (m : ℕ) (held : Option (List ℕ)) (n : ℕ) → Reached (given left left m m) (record { held_old = held; held_new = held; faults_old = n; faults_new = n }) start None
+reached_start left m held n = record {
+  bytes = [];
+  text = [];
+  entries = [];
+  took = Took-nil left;
+  put = Put-nil held;
+  read = reads_none;
+  counted = refl;
+  within = omega arith;
+  no_fault = refl;
+  no_quit = refl;
+  answers = (refl, refl);
+  ends = λ e. absurd (true≢false (sym e));
+  source_faults = omega arith;
+  sink_faults = omega arith;
+}
+
+-- a call that moves on from where the end was seen rightly
+pub ends_more : (p q : Progress) (a b : Option (List ℕ)) (m n : ℕ) (bytes : List ℕ) → EndsRightly p a → Moves p q a b m n bytes → EndsRightly q b
+ends_more p q a b m n bytes before moves now = by_before p.ended refl
+  where
+    by_before : (ended : Bool) → p.ended ≡ ended → IsAtEnd b × (q.taken < 2 ^ 30)
+    by_before true e =
+        let none = moves.none_after_end e in
+        let same = Took-same a b (subst (Took a b) none moves.took) in
+        let was = before e in
+        (subst IsAtEnd (sym same) was.0, omega (arith, moves.counted, ap length none, was.1))
+    by_before false e = moves.end_seen e now
+
+-- the same session one call later
+abbrev pub LaterSource : Given → Option (List ℕ) → ℕ → Given
+LaterSource source left n = record { left_old = source.left_old; left_new = left; faults_old = source.faults_old; faults_new = n }
+
+abbrev pub LaterSink : Written → Option (List ℕ) → ℕ → Written
+LaterSink sink held n = record { held_old = sink.held_old; held_new = held; faults_old = sink.faults_old; faults_new = n }
+
+abbrev pub CallSink : Written → Option (List ℕ) → ℕ → Written
+CallSink sink held n = record { held_old = sink.held_new; held_new = held; faults_old = sink.faults_new; faults_new = n }
+
+-- one line more
+pub reached_more : (source : Given) (sink : Written) (p q : Progress) (b : Option (List ℕ)) (m : ℕ) (held : Option (List ℕ)) (n : ℕ) (s t : State) → Reached source sink p s
+    → Turns p q source.left_new b source.faults_new m s t (CallSink sink held n) Goes → Reached (LaterSource source b m) (LaterSink sink held n) q t
+reached_more source sink p q b m held n s t reach turns =
+    let g = turns.line in
+    let entry = entry_of g.piece in
+    record {
+      bytes = reach.bytes ++ turns.bytes;
+      text = reach.text ++ answer_text g.is.reply;
+      entries = reach.entries ++ entry ∷ [];
+      took = Took-append source.left_old source.left_new b reach.bytes turns.bytes reach.took turns.moves.took;
+      put = Put-append sink.held_old sink.held_new held reach.text (answer_text g.is.reply) reach.put g.is.put;
+      read = reads_more p.ended q.ended reach.bytes turns.bytes reach.entries p.in_hand g.piece q.in_hand reach.read turns.moves.none_after_end g.splits;
+      counted = omega (arith, turns.moves.counted, reach.counted, length-append reach.bytes turns.bytes);
+      within = turns.moves.within;
+      no_fault = g.no_fault;
+      no_quit = has_quit-push reach.entries entry reach.no_quit g.is.quit;
+      answers = Answers-append None s t reach.entries (entry ∷ []) reach.text (answer_text g.is.reply) reach.answers (Answers-one s t entry g.is.reply g.is.answer);
+      ends = ends_more p q source.left_new b source.faults_new m turns.bytes reach.ends turns.moves;
+      source_faults = omega (arith, reach.source_faults, turns.moves.faults);
+      sink_faults = omega (arith, reach.sink_faults, turns.sink_faults);
+    }
+
+-- the measure of the loop
+pub turns_smaller : (p q : Progress) (a b : Option (List ℕ)) (m n : ℕ) (s t : State) (sink : Written) → Turns p q a b m n s t sink Goes
+    → (2 ^ 30 - q.taken) + length q.in_hand < (2 ^ 30 - p.taken) + length p.in_hand
+turns_smaller p q a b m n s t sink turns = Gives-smaller p q a b m n turns.bytes turns.moves turns.line

@@ -1,0 +1,4 @@
+pub mod Entries
+pub mod Transcript
+pub mod Turn
+pub mod Headline

@@ -1,0 +1,209 @@
+use super::*;
+use line_io::{MemSink, MemSource, NeverSink, NeverSource, Sink, Source};
+use session_edits::{Command, Name, Parsed, Reply, Session, read_command, text};
+use std::alloc::Global;
+use std::test::Fail;
+
+/// The criterion of the examples, judged, and the replies to that.
+const ABC: &str = "criterion c A B C\njudge c A B 3\njudge c A C 4\njudge c B C 2\n";
+
+const ABC_REPLIES: &str = "ok\nok\nok\nok\n";
+
+/// More room than any of the sessions needs.
+const ROOM: usize = 1_000;
+
+/// A session behind the judged criterion: what is read and what is written.
+struct Row {
+    name: &'static str,
+    input: &'static str,
+    output: &'static str,
+}
+
+const ROWS: [Row; 13] = [
+    Row {
+        name: "fits meets",
+        input: "fits c 5 2 0\n",
+        output: "meets\n",
+    },
+    Row {
+        name: "fits fails",
+        input: "fits c 4 2 0\n",
+        output: "fails lower \"A\" \"B\"\n",
+    },
+    Row {
+        name: "against the order",
+        input: "judge c B A 2\nfits c 5 2 0\n",
+        output: "refused 13 against the listed order\nmeets\n",
+    },
+    Row {
+        name: "a pair with itself",
+        input: "judge c B B 2\n",
+        output: "refused 13 against the listed order\n",
+    },
+    Row {
+        name: "a pair that is equal",
+        input: "judge c A B 0\nfits c 3 2 0\nfits c 2 2 0\n",
+        output: "ok\nfails lower \"A\" \"C\"\nfails lower \"A\" \"C\"\n",
+    },
+    Row {
+        name: "a pair judged above another",
+        input: "judge c B C 1\nfits c 4 1 0\nfits c 4 2 0\n",
+        output: "ok\nmeets\nfails lower \"A\" \"B\"\n",
+    },
+    Row {
+        name: "zero, cross and order",
+        input: "judge c A B 1\njudge c A C 0\njudge c B C 0\nfits c 1 0 0\nfits c 1 0 -1\n",
+        output: "ok\nok\nok\nfails zero \"A\" \"C\"\nrefused 3 unknown command\n",
+    },
+    Row {
+        name: "a difference that isn't above another",
+        input: "fits c 6 3 0\nfits c 9 2 0\nfits c 9 7 0\n",
+        output: "fails cross \"A\" \"B\" over \"B\" \"C\"\nmeets\nfails lower \"A\" \"B\"\n",
+    },
+    Row {
+        name: "lines without words",
+        input: "\n   \nquit\nfits c 5 2 0\n",
+        output: "ok\n",
+    },
+    Row {
+        name: "the last line has no newline",
+        input: "fits c 5 2 0",
+        output: "meets\n",
+    },
+    Row {
+        name: "carriage returns",
+        input: "fits c 5 2 0\r\nquit\r\n",
+        output: "meets\nok\n",
+    },
+    Row {
+        name: "not one of the forms",
+        input: "criterion d A B\njudge c A Z 2\njudge d A B 2\njudge c A B 7\njudge c A B\nfits c 5 2\nfits c 5 2 1\nfits c 1234567890 2 0\nfits c\nquit now\nfit c 5 2 0\n",
+        output: "refused 3 unknown command\nrefused 3 unknown command\nrefused 3 unknown command\nrefused 3 unknown command\nrefused 3 unknown command\nrefused 3 unknown command\nrefused 3 unknown command\nrefused 3 unknown command\nrefused 3 unknown command\nrefused 3 unknown command\nrefused 3 unknown command\n",
+    },
+    Row {
+        name: "several spaces",
+        input: "  fits   c  5 2 0  \n",
+        output: "meets\n",
+    },
+];
+
+fn bytes_of(alloc: Global, parts: &[&str]) -> Result<Vec<u8>, Fail> {
+    let mut bytes = Vec::new(alloc);
+    for part in parts {
+        bytes.extend_from_slice(part.as_bytes())?;
+    }
+    Ok(bytes)
+}
+
+fn run_plainly<S: Source, K: Sink>(alloc: Global, source: &mut S, sink: &mut K) -> Status {
+    let words = Vec::new(alloc);
+    run(alloc, &words, source, sink)
+}
+
+#[test]
+fn sessions(rt: HostRuntime) -> Result<(), Fail> {
+    let alloc = rt.alloc();
+    for row in &ROWS {
+        let input = bytes_of(alloc, &[ABC, row.input])?;
+        let output = bytes_of(alloc, &[ABC_REPLIES, row.output])?;
+        let mut source = MemSource::make(input, 7, Vec::new(alloc));
+        let mut sink = MemSink::make(alloc, ROOM, 5, Vec::new(alloc))?;
+        let status = run_plainly(alloc, &mut source, &mut sink);
+        assert_eq!(rt; status, Status::Done, "{}", row.name);
+        assert_eq!(rt; sink.bytes(), output.as_slice(), "{}", row.name);
+    }
+    Ok(())
+}
+
+#[test]
+fn a_session_that_cannot_fail(rt: HostRuntime) -> Result<(), Fail> {
+    let alloc = rt.alloc();
+    let mut source = NeverSource::make(bytes_of(alloc, &[ABC, "fits c 5 2 0\n"])?);
+    let mut sink = NeverSink::make(alloc, 18)?;
+    assert_eq!(rt; run_plainly(alloc, &mut source, &mut sink), Status::Done);
+    assert_eq!(rt; sink.bytes(), b"ok\nok\nok\nok\nmeets\n".as_slice());
+    Ok(())
+}
+
+#[test]
+fn a_read_that_fails(rt: HostRuntime) -> Result<(), Fail> {
+    let alloc = rt.alloc();
+    let mut source = MemSource::make(bytes_of(alloc, &[ABC])?, 50, vec![in alloc; 2]?);
+    let mut sink = NeverSink::make(alloc, ROOM)?;
+    let status = run_plainly(alloc, &mut source, &mut sink);
+    assert_eq!(rt; status, Status::ReadFault);
+    assert_eq!(rt; sink.bytes(), b"ok\nok\nok\n".as_slice());
+    Ok(())
+}
+
+#[test]
+fn a_write_that_fails(rt: HostRuntime) -> Result<(), Fail> {
+    let alloc = rt.alloc();
+    let mut source = NeverSource::make(bytes_of(alloc, &[ABC])?);
+    let mut sink = MemSink::make(alloc, 100, 64, vec![in alloc; 3]?)?;
+    let status = run_plainly(alloc, &mut source, &mut sink);
+    assert_eq!(rt; status, Status::WriteFault);
+    assert_eq!(rt; sink.bytes(), b"ok\nok\n".as_slice());
+    Ok(())
+}
+
+#[test]
+fn words_that_are_not_known(rt: HostRuntime) -> Result<(), Fail> {
+    let alloc = rt.alloc();
+    let mut words = Vec::new(alloc);
+    words.push(String::from_str(alloc, "sample")?)?;
+    words.push(String::from_str(alloc, "0")?)?;
+    let mut source = NeverSource::make(bytes_of(alloc, &[ABC])?);
+    let mut sink = NeverSink::make(alloc, ROOM)?;
+    let status = run(alloc, &words, &mut source, &mut sink);
+    assert_eq!(rt; status, Status::BadWords);
+    assert_eq!(rt; sink.bytes(), b"".as_slice());
+    Ok(())
+}
+
+#[test]
+fn an_order_without_judgements(rt: HostRuntime) -> Result<(), Fail> {
+    let alloc = rt.alloc();
+    let mut source = NeverSource::make(bytes_of(alloc, &["criterion c A B C\nfits c 0 1 0\n"])?);
+    let mut sink = NeverSink::make(alloc, ROOM)?;
+    assert_eq!(rt; run_plainly(alloc, &mut source, &mut sink), Status::Done);
+    assert_eq!(rt; sink.bytes(), b"ok\nfails order \"A\"\n".as_slice());
+    Ok(())
+}
+
+#[test]
+fn ends_of_input(rt: HostRuntime) -> Result<(), Fail> {
+    let alloc = rt.alloc();
+    let mut source = NeverSource::make(Vec::new(alloc));
+    let mut sink = NeverSink::make(alloc, ROOM)?;
+    assert_eq!(rt; run_plainly(alloc, &mut source, &mut sink), Status::Done);
+    assert_eq!(rt; sink.bytes(), b"".as_slice());
+
+    let mut long = vec![in alloc; b'a'; 65_537]?;
+    long.extend_from_slice(b"\nquit\n")?;
+    let mut source = NeverSource::make(long);
+    let mut sink = NeverSink::make(alloc, ROOM)?;
+    assert_eq!(rt; run_plainly(alloc, &mut source, &mut sink), Status::Done);
+    assert_eq!(rt; sink.bytes(), b"refused 1 line too long\nok\n".as_slice());
+    Ok(())
+}
+
+#[test]
+fn calls_that_take_memory(rt: HostRuntime) -> Result<(), Fail> {
+    let alloc = rt.alloc();
+    let name = Name::check(alloc, b"c1")?.ok_or("a name")?;
+    assert_eq!(rt; name.copy()?.as_str(), "c1");
+    assert!(rt; Name::check(alloc, b"c-1")?.is_none());
+    let parsed = read_command(alloc, b"criterion c A B")?;
+    assert!(rt; matches!(parsed, Parsed::Do(Command::Criterion(_, _))));
+    let mut session = Session::start(alloc);
+    if let Parsed::Do(command) = parsed {
+        assert!(rt; matches!(session.apply(&command)?, Reply::Ok));
+        let refusal = session.apply(&command)?;
+        assert_eq!(rt;
+            text(alloc, &refusal)?.as_str(),
+            "refused 3 unknown command\n"
+        );
+    }
+    Ok(())
+}

@@ -1,0 +1,5 @@
+pub mod Words
+pub mod Reading
+pub mod State
+pub mod Reply
+pub mod Answer

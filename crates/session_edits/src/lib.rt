@@ -1,0 +1,22 @@
+//! Lines of a session as commands, what a command does, and the texts of the replies.
+#![tactic(auto)]
+
+mod command;
+mod criterion;
+mod name;
+mod number;
+mod read;
+mod reply;
+mod session;
+mod print;
+mod word;
+
+pub use command::{Command, Parsed};
+pub use name::Name;
+pub use read::read_command;
+pub use reply::{Detail, Reply};
+pub use session::Session;
+pub use print::text;
+
+/// Why a call that takes memory gave none of its other answers.
+pub use std::alloc::AllocError as NoMemory;

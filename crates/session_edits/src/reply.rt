@@ -1,0 +1,23 @@
+//! Replies.
+use frac128::List;
+use judgement_matrix::Tag;
+use crate::name::Name;
+
+/// What a refusal says besides its number.
+#[derive(Debug, Drop)]
+pub enum Detail {
+    None,
+}
+
+/// What a session answers to a command.
+#[derive(Debug, Drop)]
+pub enum Reply {
+    /// The command was accepted.
+    Ok,
+    /// It was refused, and nothing changed.
+    Refused { number: u8, detail: Detail },
+    /// The scale meets the judgements.
+    Meets,
+    /// The first constraint, in row order, that the scale fails, and the names that its positions count.
+    Fails { names: List<Name>, tag: Tag },
+}
