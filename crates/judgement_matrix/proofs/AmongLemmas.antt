@@ -19,15 +19,15 @@ every-rows : (m : Judgements) → AllByRecursion (IsTagAmong m.size) (rows m)
 every-rows m =
     let Among : Tag → Type 0 = IsTagAmong m.size in
     let lower : AllByRecursion Among (lower_rows m) =
-      every-map Among (λ (pair : ℕ × ℕ). Lower pair.0 pair.1) _ (every-some_pairs m.size (λ pair. Among (Lower pair.0 pair.1)) _ (λ p q h. h)) in
+    every-map Among (λ (pair : ℕ × ℕ). Lower pair.0 pair.1) _ (every-some_pairs m.size (λ pair. Among (Lower pair.0 pair.1)) _ (λ p q h. h)) in
     let zero : AllByRecursion Among (zero_rows m) =
-      every-map Among (λ (pair : ℕ × ℕ). Zero pair.0 pair.1) _ (every-some_pairs m.size (λ pair. Among (Zero pair.0 pair.1)) _ (λ p q h. h)) in
+    every-map Among (λ (pair : ℕ × ℕ). Zero pair.0 pair.1) _ (every-some_pairs m.size (λ pair. Among (Zero pair.0 pair.1)) _ (λ p q h. h)) in
     let cross : AllByRecursion Among (cross_rows m) =
-      every-flat_map Among _ (pairs m.size)
-        (every-pairs m.size (λ p q. AllByRecursion Among (map (λ (right : ℕ × ℕ). Cross p q right.0 right.1) (filter (λ (right : ℕ × ℕ). nat_lt (range_at m right.0 right.1).hi (range_at m p q).lo) (pairs m.size))))
-          (λ p q h. every-map Among (λ (right : ℕ × ℕ). Cross p q right.0 right.1) _ (every-some_pairs m.size (λ right. Among (Cross p q right.0 right.1)) _ (λ x y k. (h, k))))) in
+    every-flat_map Among _ (pairs m.size)
+    (every-pairs m.size (λ p q. AllByRecursion Among (map (λ (right : ℕ × ℕ). Cross p q right.0 right.1) (filter (λ (right : ℕ × ℕ). nat_lt (range_at m right.0 right.1).hi (range_at m p q).lo) (pairs m.size))))
+    (λ p q h. every-map Among (λ (right : ℕ × ℕ). Cross p q right.0 right.1) _ (every-some_pairs m.size (λ right. Among (Cross p q right.0 right.1)) _ (λ x y k. (h, k))))) in
     let order : AllByRecursion Among (order_rows m) =
-      every-map Among (λ p. Order p) (range_with_len 1 (m.size - 1)) (every-range (λ p. Among (Order p)) 1 (m.size - 1) (λ k low high. (low, omega arith))) in
+    every-map Among (λ p. Order p) (range_with_len 1 (m.size - 1)) (every-range (λ p. Among (Order p)) 1 (m.size - 1) (λ k low high. (low, omega arith))) in
     every-append Among _ _ (every-append Among _ _ (every-append Among _ _ lower zero) cross) order
 
 -- so the row that is named first is one

@@ -34,9 +34,9 @@ first_part (x ∷ xs) =
     elim (cases_eq x 32) [
       | inl e ↦ rw e (record { others = slice_split is_space xs; parts = refl; behind = refl })
       | inr n ↦
-        let h = first_part xs in
-        let s : 1 + prefix_len is_letter xs ≡ suc (prefix_len is_letter xs) = omega arith in
-        record { others = h.others; parts = rw (ne_eqb x 32 n) (rw (s, h.parts) refl); behind = rw (ne_eqb x 32 n) (rw s h.behind) }
+          let h = first_part xs in
+          let s : 1 + prefix_len is_letter xs ≡ suc (prefix_len is_letter xs) = omega arith in
+          record { others = h.others; parts = rw (ne_eqb x 32 n) (rw (s, h.parts) refl); behind = rw (ne_eqb x 32 n) (rw s h.behind) }
     ]
 
 -- a line that doesn't begin with a space begins with its first word

@@ -54,13 +54,13 @@ Does (Some c) (command.Criterion name elements) r next = Refuses 3 (Some c) r ne
 Does None (command.Judge name x y range) r next = Refuses 3 None r next
 Does (Some c) (command.Judge name x y range) r next =
     MatchBool (bytes_eq name c.name)
-        ((after : CriterionState) × (next ≡ Some after) × Judges c x y range r after)
-        (Refuses 3 (Some c) r next)
+    ((after : CriterionState) × (next ≡ Some after) × Judges c x y range r after)
+    (Refuses 3 (Some c) r next)
 Does None (command.Fits name values) r next = Refuses 3 None r next
 Does (Some c) (command.Fits name values) r next =
     MatchBool (bytes_eq name c.name && is_scale c values)
-        ((next ≡ Some c) × ((f : Fit) × IsFit c.matrix values 1 f × (r ≡ fit_reply c f)))
-        (Refuses 3 (Some c) r next)
+    ((next ≡ Some c) × ((f : Fit) × IsFit c.matrix values 1 f × (r ≡ fit_reply c f)))
+    (Refuses 3 (Some c) r next)
 Does state command.Quit r next = Accepts state r next
 
 -- an entry of the input: a line without its newline, or one that is too long

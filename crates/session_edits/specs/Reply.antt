@@ -1,6 +1,5 @@
 -- Replies, and their texts.
 use Rattle.std.specs.Prelude.{◌≡◌, ℕ, ◌-◌, ◌⊎◌, List, [], ◌∷◌, ◌++◌, length, slice_index_or, codes, if◌then◌else◌, ◌==◌}
-
 use Rattle.std.specs.Fmt.{decimal}
 use Rattle.judgement_matrix.specs.Rows.{IsTagAmong}
 use Rattle.judgement_matrix.specs.declared.tag.Tag.{Tag}

@@ -116,5 +116,7 @@ pub fn copied(alloc: Global, names: &[Name]) -> Result<List<Name>, NoMemory>
 fn place_of(names: &[Name], name: &Name) -> Option<usize>
     ensures { result ≡ position (bytes_eq name.now) names.now }
 {
-    names.iter().position(|other| name.as_str() == other.as_str())
+    names
+        .iter()
+        .position(|other| name.as_str() == other.as_str())
 }

@@ -5,18 +5,18 @@ mod command;
 mod criterion;
 mod name;
 mod number;
+mod print;
 mod read;
 mod reply;
 mod session;
-mod print;
 mod word;
 
 pub use command::{Command, Parsed};
 pub use name::Name;
+pub use print::text;
 pub use read::read_command;
 pub use reply::{Detail, Reply};
 pub use session::Session;
-pub use print::text;
 
 /// Why a call that takes memory gave none of its other answers.
 pub use std::alloc::AllocError as NoMemory;

@@ -11,7 +11,6 @@ use crate::NoMemory;
 use crate::command::{Command, Parsed};
 use crate::name::Name;
 use crate::number::{category, number};
-
 use crate::word::split_word;
 use frac128::List;
 use judgement_matrix::Range;
@@ -19,6 +18,7 @@ use std::alloc::Global;
 
 /// The fewest and the most elements of a criterion.
 const FEWEST: usize = 2;
+
 const MOST: usize = 24;
 
 /// What a line asks for.
@@ -140,7 +140,13 @@ fn read_judge(alloc: Global, rest: &[u8]) -> Result<Parsed, NoMemory>
 }
 
 #[tactic(auto, unfolding(crate::specs::Reading::judge_of))]
-fn judgement(alloc: Global, name: &[u8], x: &[u8], y: &[u8], digit: &[u8]) -> Result<Parsed, NoMemory>
+fn judgement(
+    alloc: Global,
+    name: &[u8],
+    x: &[u8],
+    y: &[u8],
+    digit: &[u8],
+) -> Result<Parsed, NoMemory>
     ensures parsed { IfOk result (λ parsed. parsed ≡ judge_of (name.now ∷ x.now ∷ y.now ∷ digit.now ∷ [])) }
     ensures readable { IfOk result IsReadable }
 {

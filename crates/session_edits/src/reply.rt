@@ -1,7 +1,7 @@
 //! Replies.
+use crate::name::Name;
 use frac128::List;
 use judgement_matrix::Tag;
-use crate::name::Name;
 
 /// What a refusal says besides its number.
 #[derive(Debug, Drop)]

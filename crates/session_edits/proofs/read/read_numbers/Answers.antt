@@ -11,6 +11,6 @@ loop-word-preserved c =
     record {
       read = rw items
           (numbers_more c.loop-word.values.items c.in-Some.word.now (words c.in-Some.after.now) c.in-Some-number.value (numbers_of (words c.args.rest.now)) (sym c.in-Some-number.ensures.value)
-              (rw c.in-Some.ensures.first at c.loop-word.invariant.read));
+          (rw c.in-Some.ensures.first at c.loop-word.invariant.read));
       bounded = rw items (All-push (λ v. (neg_ℤ (pos 1000000000) ≤ℤ v) × (v ≤ℤ pos 1000000000)) c.loop-word.values.items c.in-Some-number.value c.loop-word.invariant.bounded c.in-Some-number.ensures.bounded);
     }
