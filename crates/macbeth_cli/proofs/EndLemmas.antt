@@ -1,21 +1,21 @@
 -- What the end of a session tells, for each status.
-use Rattle.std.proofs.Common.{◌≡◌, ◌≢◌, ◌⊎◌, ℕ, ◌+◌, ◌-◌, ◌^◌, ◌<◌, ◌≤◌, Bool, true, false, cond, List, [], ◌∷◌, ◌++◌, length, take, Option, Some, None, refl, sym, ap, ◌∙◌, subst, inl, inr, append_assoc, length-append, arith}
+use Rattle.std.proofs.Common.{◌≡◌, ◌≢◌, ◌⊎◌, ℕ, ◌+◌, Bool, true, false, cond, List, [], ◌∷◌, ◌++◌, length, take, Option, Some, None, refl, sym, ap, ◌∙◌, subst, inl, inr, append_assoc, length-append, arith}
 use Rattle.std.proofs.lemmas.Bool.{true≢false}
 use Rattle.std.proofs.lemmas.List.{append-nil}
 use Rattle.std.proofs.lemmas.List.Elements.{All-nil}
-use Rattle.line_io.specs.Outside.{Took, Put, Rose, IsAtEnd, PutsFront}
+use Rattle.line_io.specs.Outside.{Took, Put, IsAtEnd}
 use Rattle.line_io.specs.Lines.{Progress, Moves, Gives, IsOver, FailsToRead, ReachesLimit, IsUnbroken}
 use Rattle.line_io.proofs.OutsideLemmas.{Took-nil, Took-append, Put-nil, Put-append}
 use Rattle.session_edits.specs.State.{State}
 use Rattle.session_edits.specs.Answer.{Entry}
-use Rattle.macbeth_cli.specs.Entries.{entry_of, AreEntries}
+use Rattle.macbeth_cli.specs.Entries.{entry_of}
 use Rattle.macbeth_cli.specs.Transcript.{is_quit, has_quit, up_to_quit, answer_text, Answers, Replies, IsTranscript}
 use Rattle.macbeth_cli.specs.Turn.{Written, IsAnswered, IsCutShort, Turns}
-use Rattle.macbeth_cli.specs.Headline.{IsAtTheEnd, MayBeEnded, IsCutTranscript, IsFirstReplies, Tells, IsTold}
+use Rattle.macbeth_cli.specs.Headline.{IsAtTheEnd, MayBeEnded, Tells, IsTold}
 use Rattle.macbeth_cli.specs.declared.status.Status.{Status}
 use Rattle.macbeth_cli.specs.declared.status.Status.TheVariants.{Done, BadWords, ReadFault, WriteFault, NoMemory, InputLimit}
-use Rattle.macbeth_cli.specs.declared.turn.Turn.TheVariants.{Goes, Ends}
-use Rattle.macbeth_cli.proofs.EntriesLemmas.{IsRead, reads_none, reads_more, reads_over, reads_open, GoesOn, goes_on}
+use Rattle.macbeth_cli.specs.declared.turn.Turn.TheVariants.{Ends}
+use Rattle.macbeth_cli.proofs.EntriesLemmas.{reads_none, reads_more, reads_over, reads_open, GoesOn, goes_on}
 use Rattle.macbeth_cli.proofs.TranscriptLemmas.{Answers-append, Answers-one, answers_exist, up_to_quit-append, up_to_quit-all, up_to_quit-quit, has_quit-found, take_answered}
 use Rattle.macbeth_cli.proofs.ReachedLemmas.{Given, Reached, EndsRightly, CallSink, ends_more}
 

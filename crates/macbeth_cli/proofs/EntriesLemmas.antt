@@ -1,14 +1,14 @@
 -- The entries of bytes that are read line by line.
-use Rattle.std.proofs.Common.{◌≡◌, ◌≢◌, ◌⊎◌, ℕ, suc, ◌+◌, ◌<◌, ◌≤◌, Bool, true, false, List, [], ◌∷◌, ◌++◌, length, map, All, refl, sym, ap, ◌∙◌, subst, inl, inr, append_assoc, length-append, arith}
+use Rattle.std.proofs.Common.{◌≡◌, ◌≢◌, ◌⊎◌, ℕ, suc, Bool, true, false, List, [], ◌∷◌, ◌++◌, length, map, All, refl, sym, ap, ◌∙◌, inl, inr, append_assoc, length-append, arith}
 use Rattle.std.specs.List.{flat_map}
 use Rattle.std.proofs.lemmas.Bool.{cases_eq, lt-ltb, true≢false}
-use Rattle.std.proofs.lemmas.List.{append-nil, map-append, map_push, nil_from_length}
+use Rattle.std.proofs.lemmas.List.{append-nil, map-append, map_push}
 use Rattle.std.proofs.lemmas.List.Elements.{All-cons, All-nil, All-append, All-push}
 use Rattle.std.proofs.lemmas.Grind.{flat_map-append}
 use Rattle.line_io.specs.Lines.{IsUnbroken, Splits}
 use Rattle.session_edits.specs.Words.{is_filled}
 use Rattle.session_edits.specs.Answer.{Entry}
-use Rattle.macbeth_cli.specs.Entries.{closed, AreLines, entry_of, last_entry, AreEntries}
+use Rattle.macbeth_cli.specs.Entries.{closed, AreLines, entry_of, AreEntries}
 
 -- bytes cut at their newlines
 pub record Cut (bytes : List ℕ) : Type 0 where

@@ -1,10 +1,9 @@
 -- A line that was taken and answered, as a turn of the session.
-use Rattle.std.proofs.Common.{◌≡◌, ℕ, ◌+◌, ◌<◌, ◌≤◌, Bool, true, false, cond, ltb, List, ◌++◌, length, Option, Some, None, Result, Ok, Err, refl, sym, ap, ◌∙◌, subst, inl, inr}
+use Rattle.std.proofs.Common.{◌≡◌, ℕ, ◌<◌, ◌≤◌, false, cond, List, ◌++◌, length, Option, Some, Result, Ok, refl, sym, ap, ◌∙◌, subst, inr}
 use Rattle.std.proofs.lemmas.Bool.{lt-ltb, le-ltb}
-use Rattle.line_io.specs.Outside.{Put}
-use Rattle.line_io.specs.Lines.{Progress, Gives, Moves, Says, Advances, without_return}
+use Rattle.line_io.specs.Lines.{Progress, Gives, Says, Advances, without_return}
 use Rattle.line_io.specs.declared.lines.Item.{Item}
-use Rattle.line_io.specs.declared.lines.Item.TheVariants.{Line, TooLong, End}
+use Rattle.line_io.specs.declared.lines.Item.TheVariants.{Line, TooLong}
 use Rattle.line_io.specs.declared.lines.LineFault.{LineFault}
 use denote.Ref.{Bor}
 use Rattle.session_edits.specs.State.{State}
@@ -12,8 +11,7 @@ use Rattle.session_edits.specs.Reply.{refused}
 use Rattle.session_edits.specs.Answer.{Entry, line, too_long, Answer}
 use Rattle.macbeth_cli.specs.Entries.{entry_of}
 use Rattle.macbeth_cli.specs.Transcript.{is_quit}
-use Rattle.macbeth_cli.specs.Turn.{Written, IsAnswered, EntryTurn, LineTurn, Turns}
-use Rattle.macbeth_cli.specs.declared.status.Status.{Status}
+use Rattle.macbeth_cli.specs.Turn.{Written, EntryTurn, LineTurn, Turns}
 use Rattle.macbeth_cli.specs.declared.status.Status.TheVariants.{Done, BadWords, ReadFault, WriteFault, NoMemory, InputLimit}
 use Rattle.macbeth_cli.specs.declared.turn.Turn.{Turn}
 use Rattle.macbeth_cli.specs.declared.turn.Turn.TheVariants.{Goes, Ends}

@@ -1,23 +1,18 @@
 -- How far a session has come after some turns, and what its end tells.
-use Rattle.std.proofs.Common.{◌≡◌, ◌⊎◌, ℕ, ◌+◌, ◌-◌, ◌^◌, ◌<◌, ◌≤◌, Bool, true, false, List, [], ◌∷◌, ◌++◌, length, take, Option, Some, None, refl, sym, ap, ◌∙◌, subst, inl, inr, append_assoc, length-append, arith}
-use Rattle.std.specs.Prelude.{IfSome}
+use Rattle.std.proofs.Common.{◌≡◌, ℕ, ◌+◌, ◌-◌, ◌^◌, ◌<◌, ◌≤◌, Bool, true, false, List, [], ◌∷◌, ◌++◌, length, Option, None, refl, sym, ap, subst, length-append, arith}
 use Rattle.std.proofs.lemmas.Bool.{true≢false}
-use Rattle.std.proofs.lemmas.List.{append-nil}
-use Rattle.line_io.specs.Outside.{Took, Put, Rose, IsAtEnd, PutsFront}
-use Rattle.line_io.specs.Lines.{Progress, start, Moves, Gives, IsOver, FailsToRead, ReachesLimit}
-use Rattle.line_io.proofs.OutsideLemmas.{Took-nil, Took-append, Took-same, Put-nil, Put-append, Rose-later, Rose-earlier}
+use Rattle.line_io.specs.Outside.{Took, Put, IsAtEnd}
+use Rattle.line_io.specs.Lines.{Progress, start, Moves}
+use Rattle.line_io.proofs.OutsideLemmas.{Took-nil, Took-append, Took-same, Put-nil, Put-append}
 use Rattle.line_io.proofs.LinesLemmas.{Gives-smaller}
 use Rattle.session_edits.specs.State.{State}
 use Rattle.session_edits.specs.Answer.{Entry}
-use Rattle.macbeth_cli.specs.Entries.{entry_of, AreEntries}
-use Rattle.macbeth_cli.specs.Transcript.{is_quit, has_quit, up_to_quit, answer_text, Answers, Replies, IsTranscript}
-use Rattle.macbeth_cli.specs.Turn.{Written, IsAnswered, IsCutShort, EntryTurn, LineTurn, Turns}
-use Rattle.macbeth_cli.specs.Headline.{IsAtTheEnd, MayBeEnded, IsCutTranscript, IsFirstReplies, Tells, IsTold}
-use Rattle.macbeth_cli.specs.declared.status.Status.{Status}
-use Rattle.macbeth_cli.specs.declared.status.Status.TheVariants.{Done, BadWords, ReadFault, WriteFault, NoMemory, InputLimit}
-use Rattle.macbeth_cli.specs.declared.turn.Turn.TheVariants.{Goes, Ends}
-use Rattle.macbeth_cli.proofs.EntriesLemmas.{IsRead, reads_none, reads_more, reads_over, reads_open, GoesOn, goes_on}
-use Rattle.macbeth_cli.proofs.TranscriptLemmas.{Answers-append, Answers-one, answers_exist, up_to_quit-append, up_to_quit-all, up_to_quit-quit, has_quit-push, has_quit-found, take_answered}
+use Rattle.macbeth_cli.specs.Entries.{entry_of}
+use Rattle.macbeth_cli.specs.Transcript.{has_quit, answer_text, Answers}
+use Rattle.macbeth_cli.specs.Turn.{Written, Turns}
+use Rattle.macbeth_cli.specs.declared.turn.Turn.TheVariants.{Goes}
+use Rattle.macbeth_cli.proofs.EntriesLemmas.{IsRead, reads_none, reads_more}
+use Rattle.macbeth_cli.proofs.TranscriptLemmas.{Answers-append, Answers-one, has_quit-push}
 
 -- a source before and after some calls: what it tells, and its count of faults
 pub record Given : Type 0 where

@@ -1,10 +1,10 @@
 -- A command that was done, and a reply that was written, as a turn of the session.
-use Rattle.std.proofs.Common.{◌≡◌, ℕ, Bool, true, false, List, Option, Some, None, refl, sym, ap, ◌∙◌, subst}
-use Rattle.line_io.specs.Outside.{Put, PutsFront}
+use Rattle.std.proofs.Common.{◌≡◌, ℕ, Bool, List, Some, refl, sym, ap, ◌∙◌, subst}
+use Rattle.line_io.specs.Outside.{Put}
 use Rattle.session_edits.specs.State.{State}
 use Rattle.session_edits.specs.Reading.{command_of}
-use Rattle.session_edits.specs.Reply.{reply_text, refused}
-use Rattle.session_edits.specs.Answer.{Entry, line, too_long, Answer, AnswersParsed, Does}
+use Rattle.session_edits.specs.Reply.{reply_text}
+use Rattle.session_edits.specs.Answer.{Entry, line, Answer, AnswersParsed, Does}
 use Rattle.session_edits.specs.declared.command.Command.{Command}
 use Rattle.session_edits.specs.declared.command.Parsed.{Parsed}
 use Rattle.session_edits.specs.declared.command.Parsed.TheVariants.{Do}
@@ -13,8 +13,7 @@ use Rattle.macbeth_cli.specs.Transcript.{is_quit_line, ends_session}
 use Rattle.macbeth_cli.specs.Turn.{Written, IsAnswered, EntryTurn, StopsWriting}
 use Rattle.macbeth_cli.specs.declared.status.Status.{Status}
 use Rattle.macbeth_cli.specs.declared.status.Status.TheVariants.{Done, BadWords, ReadFault, WriteFault, NoMemory, InputLimit}
-use Rattle.macbeth_cli.specs.declared.turn.Turn.{Turn}
-use Rattle.macbeth_cli.specs.declared.turn.Turn.TheVariants.{Goes, Ends}
+use Rattle.macbeth_cli.specs.declared.turn.Turn.TheVariants.{Ends}
 
 -- a command that a line reads as is the answer to that line
 does_answer : (old new : State) (command : Command) (reply : Reply) (bytes : List ℕ) → command_of bytes ≡ Do command → Does old command reply new → Answer old (line bytes) (Some reply) new

@@ -1,5 +1,5 @@
 -- What each status says of the bytes that were taken and of those that were written.
-use Rattle.std.specs.Prelude.{◌≡◌, ◌⊎◌, ℕ, ◌^◌, ◌<◌, Bool, true, false, List, [], ◌++◌, length, take, Option, Some, IfSome}
+use Rattle.std.specs.Prelude.{◌≡◌, ◌⊎◌, ℕ, ◌^◌, ◌<◌, Bool, true, false, List, [], ◌++◌, length, take, Option, IfSome}
 use Rattle.line_io.specs.Outside.{Took, Put}
 use Rattle.session_edits.specs.Answer.{Entry}
 use Rattle.macbeth_cli.specs.Entries.{AreEntries}

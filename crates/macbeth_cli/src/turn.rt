@@ -10,7 +10,7 @@ ghost use Rattle.macbeth_cli.specs.Turn.{EntryTurn, Turns, StopsWriting, written
 
 use crate::status::Status;
 use line_io::{Item, LineFault, Lines, Sink, Source, put_all};
-use session_edits::{Command, Detail, Parsed, Reply, Session, read_command, text};
+use session_edits::{Command, Detail, LINE_TOO_LONG, Parsed, Reply, Session, read_command, text};
 use std::alloc::Global;
 
 /// What a turn leads to.
@@ -36,7 +36,7 @@ pub fn take_turn<S: Source, K: Sink>(
 {
     match lines.next(source) {
         Ok(Item::Line(line)) => answer_line(alloc, session, line, sink),
-        Ok(Item::TooLong(_)) => refuse(alloc, 1, sink),
+        Ok(Item::TooLong(_)) => refuse(alloc, LINE_TOO_LONG, sink),
         Ok(Item::End) => Turn::Ends(Status::Done),
         Err(LineFault::Read) => Turn::Ends(Status::ReadFault),
         Err(LineFault::Limit) => Turn::Ends(Status::InputLimit),

@@ -1,11 +1,10 @@
 -- Every entry has an answer.
-use Rattle.std.proofs.Common.{◌≡◌, ℕ, ◌+◌, Bool, true, false, ltb, List, Option, Some, None, MatchBool, refl}
+use Rattle.std.proofs.Common.{◌≡◌, ℕ, Bool, true, false, ltb, List, Option, Some, None, MatchBool, refl}
 use Rattle.std.specs.Prelude.{◌&&◌, MatchOption}
 use Rattle.std.specs.Str.{bytes_eq}
 use Rattle.judgement_matrix.specs.Range.{Bounds}
-use Rattle.judgement_matrix.specs.Matrix.{judged}
 use Rattle.judgement_matrix.proofs.FitLemmas.{fit_exists}
-use Rattle.session_edits.specs.State.{CriterionState, State, new_criterion}
+use Rattle.session_edits.specs.State.{CriterionState, State}
 use Rattle.session_edits.specs.Reading.{command_of}
 use Rattle.session_edits.specs.Reply.{refused}
 use Rattle.session_edits.specs.Answer.{Refuses, Accepts, element_place, Judges, is_scale, fit_reply, Does, Entry, line, too_long, AnswersParsed, Answer}

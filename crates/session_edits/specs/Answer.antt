@@ -1,5 +1,5 @@
 -- How an entry of the input is answered: a relation of a state, the entry, the reply and the next state.
-use Rattle.std.specs.Prelude.{◌≡◌, ℕ, ◌+◌, ◌-◌, ◌<◌, Bool, ◌&&◌, List, length, slice_index_or, Option, Some, None, ℤ, pos, nat_lt, ◌==◌, MatchBool, MatchOption}
+use Rattle.std.specs.Prelude.{◌≡◌, ℕ, ◌+◌, Bool, ◌&&◌, List, length, Option, Some, None, ℤ, pos, nat_lt, ◌==◌, MatchBool, MatchOption}
 use Rattle.std.specs.List.{position}
 use Rattle.std.specs.Ordering.{int_eq}
 use Rattle.std.specs.Str.{bytes_eq}

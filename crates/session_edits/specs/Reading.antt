@@ -1,10 +1,9 @@
 -- The command of a line. The forms are `criterion NAME EL EL` with up to 22 more EL, `judge NAME EL EL D`,
 -- `fits NAME V` with more V, and `quit`.
-use Rattle.std.specs.Prelude.{◌≡◌, ℕ, ◌≤◌, Bool, true, false, ◌&&◌, List, [], ◌∷◌, length, Option, Some, None, nat_le, if◌then◌else◌, ℤ, codes, IsTrue}
+use Rattle.std.specs.Prelude.{◌≡◌, ℕ, Bool, true, ◌&&◌, List, [], ◌∷◌, length, nat_le, if◌then◌else◌, codes}
 use Rattle.std.specs.Option.{option_map_or}
 use Rattle.std.specs.Str.{bytes_eq}
 use Rattle.std.specs.List.{list_all}
-use Rattle.judgement_matrix.specs.Range.{Bounds}
 use Rattle.judgement_matrix.specs.Scale.{AllBounded}
 use Rattle.session_edits.specs.declared.command.Command.{Command}
 use Rattle.session_edits.specs.declared.command.Command.TheVariants.{Criterion, Judge, Fits, Quit}

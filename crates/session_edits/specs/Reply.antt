@@ -4,7 +4,6 @@ use Rattle.std.specs.Fmt.{decimal}
 use Rattle.judgement_matrix.specs.Rows.{IsTagAmong}
 use Rattle.judgement_matrix.specs.declared.tag.Tag.{Tag}
 use Rattle.judgement_matrix.specs.declared.tag.Tag.TheVariants.{Lower, Zero, Cross, Order}
-use Rattle.session_edits.specs.declared.reply.Detail.{Detail}
 use Rattle.session_edits.specs.declared.reply.Detail.TheVariants as detail
 use Rattle.session_edits.specs.declared.reply.Reply.{Reply}
 use Rattle.session_edits.specs.declared.reply.Reply.TheVariants as reply

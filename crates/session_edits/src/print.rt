@@ -7,7 +7,7 @@ ghost use Rattle.session_edits.specs.Reply.{reply_text, reply_words, tag_text, p
 
 use crate::NoMemory;
 use crate::name::Name;
-use crate::reply::Reply;
+use crate::reply::{LINE_TOO_LONG, Reply, UNKNOWN_COMMAND};
 use judgement_matrix::Tag;
 use std::alloc::Global;
 
@@ -51,8 +51,8 @@ fn refusal(number: u8) -> &'static str
     ensures { result.now ≡ refusal_words number }
 {
     match number {
-        1 => "line too long",
-        3 => "unknown command",
+        LINE_TOO_LONG => "line too long",
+        UNKNOWN_COMMAND => "unknown command",
         _ => "against the listed order",
     }
 }

@@ -11,9 +11,10 @@ use crate::NoMemory;
 use crate::command::{Command, Parsed};
 use crate::name::Name;
 use crate::number::{category, number};
+use crate::reply::UNKNOWN_COMMAND;
 use crate::word::split_word;
 use frac128::List;
-use judgement_matrix::Range;
+use judgement_matrix::{LIMIT, Range};
 use std::alloc::Global;
 
 /// The fewest and the most elements of a criterion.
@@ -48,7 +49,7 @@ fn unknown() -> Parsed
     ensures value { result ≡ Parsed.Refused 3 }
     ensures readable { IsReadable result }
 {
-    Parsed::Refused(3)
+    Parsed::Refused(UNKNOWN_COMMAND)
 }
 
 #[tactic(auto, unfolding(crate::specs::Reading::criterion_of))]
@@ -75,7 +76,7 @@ fn read_elements(alloc: Global, rest: &[u8]) -> Result<Option<List<Name>>, NoMem
     let Some(names) = read_names(alloc, rest)? else {
         return Ok(None);
     };
-    if names.len() < FEWEST || names.len() > MOST || !are_distinct(&names) {
+    if names.len() < FEWEST || names.len() > LIMIT || !are_distinct(&names) {
         return Ok(None);
     }
     Ok(Some(List::make(names)))

@@ -3,6 +3,13 @@ use crate::name::Name;
 use frac128::List;
 use judgement_matrix::Tag;
 
+/// The numbers of the refusals that there are so far.
+pub const LINE_TOO_LONG: u8 = 1;
+
+pub const UNKNOWN_COMMAND: u8 = 3;
+
+pub const AGAINST_THE_ORDER: u8 = 13;
+
 /// What a refusal says besides its number.
 #[derive(Debug, Drop)]
 pub enum Detail {

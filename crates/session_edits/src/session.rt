@@ -10,7 +10,7 @@ use crate::NoMemory;
 use crate::command::Command;
 use crate::criterion::Criterion;
 use crate::name::Name;
-use crate::reply::{Detail, Reply};
+use crate::reply::{AGAINST_THE_ORDER, Detail, Reply, UNKNOWN_COMMAND};
 use frac128::List;
 use judgement_matrix::Range;
 use std::alloc::Global;
@@ -64,7 +64,7 @@ impl Session {
         ensures err { OnErr result (self.new ≡ self.old) }
     {
         if self.criterion.is_some() {
-            return Ok(refusal(3));
+            return Ok(refusal(UNKNOWN_COMMAND));
         }
         self.criterion = Some(Criterion::new(self.alloc, name, elements)?);
         Ok(Reply::Ok)
@@ -75,12 +75,12 @@ impl Session {
         ensures printable { IsPrintable result }
     {
         match &mut self.criterion {
-            None => refusal(3),
+            None => refusal(UNKNOWN_COMMAND),
             Some(criterion) => {
                 if criterion.is_named(name) {
                     judged(criterion, x, y, range)
                 } else {
-                    refusal(3)
+                    refusal(UNKNOWN_COMMAND)
                 }
             }
         }
@@ -92,12 +92,12 @@ impl Session {
         ensures printable { IfOk result IsPrintable }
     {
         match &self.criterion {
-            None => Ok(refusal(3)),
+            None => Ok(refusal(UNKNOWN_COMMAND)),
             Some(criterion) => {
                 if criterion.is_named(name) && criterion.is_scale(values) {
                     criterion.fit(self.alloc, values)
                 } else {
-                    Ok(refusal(3))
+                    Ok(refusal(UNKNOWN_COMMAND))
                 }
             }
         }
@@ -120,13 +120,13 @@ fn judged(criterion: &mut Criterion, x: &Name, y: &Name, range: Range) -> Reply
     ensures printable { IsPrintable result }
 {
     let Some(upper) = criterion.place(x) else {
-        return refusal(3);
+        return refusal(UNKNOWN_COMMAND);
     };
     let Some(lower) = criterion.place(y) else {
-        return refusal(3);
+        return refusal(UNKNOWN_COMMAND);
     };
     if upper >= lower {
-        return refusal(13);
+        return refusal(AGAINST_THE_ORDER);
     }
     criterion.judge(upper, lower, range);
     Reply::Ok

@@ -1,8 +1,5 @@
-use Rattle.std.proofs.Common.{◌≡◌, rules, subst, sym}
-use Rattle.session_edits.specs.State.{State}
-use Rattle.line_io.specs.Lines.{Progress}
 use Rattle.macbeth_cli.specs.Turn.{written}
-use Rattle.macbeth_cli.proofs.ReachedLemmas.{given, Reached, reached_start, reached_more, turns_smaller}
+use Rattle.macbeth_cli.proofs.ReachedLemmas.{given, reached_start, reached_more, turns_smaller}
 use Rattle.macbeth_cli.proofs.EndLemmas.{ends_told, nothing_told}
 use Rattle.macbeth_cli.proofs.run.run_session.Goals as goal
 

@@ -1,5 +1,4 @@
-use Rattle.std.proofs.Common.{◌≡◌, rules, sym, ◌∙◌}
-use Rattle.macbeth_cli.specs.Turn.{written}
+use Rattle.std.proofs.Common.{rules, sym, ◌∙◌}
 use Rattle.macbeth_cli.proofs.TurnLemmas.{obeyed, obeyed_not}
 use Rattle.macbeth_cli.proofs.turn.obey.Goals as goal
 

@@ -1,5 +1,3 @@
-use Rattle.std.proofs.Common.{◌≡◌, rules, sym, ◌∙◌}
-use Rattle.macbeth_cli.specs.Turn.{written}
 use Rattle.macbeth_cli.proofs.LineLemmas.{line_turn, long_turn}
 use Rattle.macbeth_cli.proofs.turn.take_turn.Goals as goal
 

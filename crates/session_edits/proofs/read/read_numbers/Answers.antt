@@ -1,5 +1,5 @@
-use Rattle.std.proofs.Common.{◌≡◌, ◌++◌, ◌∷◌, [], Some, sym, ◌∙◌, List, rules}
-use Rattle.std.specs.Prelude.{ℤ, neg_ℤ, pos, ◌≤ℤ◌}
+use Rattle.std.proofs.Common.{◌≡◌, ◌++◌, ◌∷◌, [], sym, rules}
+use Rattle.std.specs.Prelude.{neg_ℤ, pos, ◌≤ℤ◌}
 use Rattle.std.proofs.lemmas.List.Elements.{All-push}
 use Rattle.session_edits.specs.Words.{words, numbers_of}
 use Rattle.session_edits.proofs.NumberLemmas.{numbers_more}

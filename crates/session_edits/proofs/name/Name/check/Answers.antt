@@ -1,5 +1,4 @@
-use Rattle.std.proofs.Common.{◌≡◌, true, false, sym, ◌∙◌, arith, rules}
-use Rattle.std.proofs.lemmas.Bool.{not-false}
+use Rattle.std.proofs.Common.{◌≡◌, true, rules}
 use Rattle.session_edits.specs.Words.{is_name}
 use Rattle.session_edits.proofs.NameLemmas.{IsUtf8-from_name}
 use Rattle.session_edits.proofs.name.Name.check.Goals as goal
