@@ -2,5 +2,6 @@
 #![tactic(auto)]
 
 mod list;
+pub mod problem;
 
 pub use list::List;
