@@ -1,3 +1,12 @@
 pub mod Combination
+pub mod DecimalLemmas
+pub mod DigitLemmas
+pub mod Euclid
 pub mod Examples
+pub mod Fits
+pub mod NearestLaw
+pub mod Numbers
+pub mod PrintingLemmas
 pub mod ProblemLaws
+pub mod ReadingLemmas
+pub mod TextLemmas

@@ -1,2 +1,6 @@
+pub mod Decimal
+pub mod Frac
 pub mod Problem
 pub mod Range
+pub mod Reading
+pub mod Text

@@ -1,6 +1,6 @@
--- The range of the whole numbers that the data of this crate hold.
-use Rattle.std.specs.Prelude.{◌<◌, ◌^◌, ℤ, unsigned_abs}
+-- The range of the numbers that fractions are made of.
+use Rattle.std.specs.Prelude.{ℤ, ◌<◌, ◌^◌, unsigned_abs}
 
--- the absolute value is below 2^127, so that the opposite number is one of this range too
+-- within -(2^127 - 1) to 2^127 - 1: the 128-bit numbers without -2^127
 abbrev pub IsInRange : ℤ → Type 0
 IsInRange z = unsigned_abs z < 2 ^ 127

@@ -1,7 +1,22 @@
-//! The plain data that every crate of this project shares.
+//! Exact fractions within 128 bits, lists, and linear problems as plain data.
 #![tactic(auto)]
 
+mod decimals;
+mod frac;
 mod list;
+mod number;
+mod order;
+mod printing;
 pub mod problem;
+mod reading;
+#[cfg(test)]
+mod tests;
+#[cfg(test)]
+mod text_tests;
 
+pub use frac::Frac;
 pub use list::List;
+pub use number::TooWide;
+pub use order::compare;
+pub use reading::{FracFault, read_frac};
+pub use std::alloc::AllocError as NoMemory;

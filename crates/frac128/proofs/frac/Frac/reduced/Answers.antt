@@ -1,0 +1,24 @@
+use Rattle.std.proofs.Common.{sym}
+use Rattle.frac128.proofs.Numbers.{divisor_positive, lowest_parts}
+use Rattle.frac128.proofs.frac.Frac.reduced.Goals as goal
+
+pub quotient-requires : goal.quotient-requires
+quotient-requires c = divisor_positive c.args.num c.args.den c.common_divisor-divisor.result c.requires c.common_divisor-divisor.ensures.divisor c.common_divisor-divisor.ensures.sign
+
+pub quotient-requires-2 : goal.quotient-requires-2
+quotient-requires-2 c = divisor_positive c.args.num c.args.den c.common_divisor-divisor.result c.requires c.common_divisor-divisor.ensures.divisor c.common_divisor-divisor.ensures.sign
+
+pub invariant_of-result : goal.invariant_of-result
+invariant_of-result c =
+    let parts = lowest_parts c.args.num c.args.den c.common_divisor-divisor.result c.requires c.common_divisor-divisor.ensures.divisor c.common_divisor-divisor.ensures.sign in
+    rw (c.quotient.ensures, c.quotient-2.ensures) (parts.1, parts.0)
+
+pub returns-clause-value : goal.returns-clause-value
+returns-clause-value c =
+    let parts = lowest_parts c.args.num c.args.den c.common_divisor-divisor.result c.requires c.common_divisor-divisor.ensures.divisor c.common_divisor-divisor.ensures.sign in
+    rw (c.quotient.ensures, c.quotient-2.ensures) (sym parts.2)
+
+pub returns-clause-lowest : goal.returns-clause-lowest
+returns-clause-lowest c =
+    let parts = lowest_parts c.args.num c.args.den c.common_divisor-divisor.result c.requires c.common_divisor-divisor.ensures.divisor c.common_divisor-divisor.ensures.sign in
+    rw (c.quotient.ensures, c.quotient-2.ensures) (parts.1, parts.0)

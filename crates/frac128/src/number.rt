@@ -1,0 +1,167 @@
+//! Whole numbers within -(2^127 - 1) to 2^127 - 1, and arithmetic that refuses what leaves that range.
+
+ghost use Rattle.frac128.specs.Range.{IsInRange};
+ghost use Rattle.integers.specs.Divisibility.{IsGcdOf};
+ghost use Rattle.std.specs.Int.{IsGcd};
+ghost use Rattle.std.specs.Prelude.{◌≡◌, pos, neg_ℤ, unsigned_abs, int_div, ◌+ℤ◌, ◌-ℤ◌, ◌*ℤ◌, ◌≤ℤ◌, ◌<ℤ◌, OkIff};
+
+use std::marker::Model;
+
+/// A number left the range -(2^127 - 1) to 2^127 - 1.
+#[derive(Clone, Copy, Debug, PartialEq, Eq)]
+pub struct TooWide;
+
+/// A whole number within -(2^127 - 1) to 2^127 - 1.
+#[derive(Clone, Copy, Debug, PartialEq, Eq, PartialOrd, Ord)]
+pub struct Number {
+    value: i128,
+}
+
+impl Model for Number {
+    ghost use Rattle.frac128.specs.Range.{IsInRange};
+    ghost use Rattle.std.specs.Prelude.{ℤ};
+
+    ghost Value = { ℤ };
+
+    ghost view = { λ n. n.value };
+
+    ghost inverse = { λ z. record { value = z } };
+
+    ghost invariant = { λ n. IsInRange n.value };
+}
+
+/// A number as a multiple of a divisor and a rest below the divisor.
+#[derive(Clone, Copy)]
+pub struct Division {
+    pub floor: Number,
+    pub rest: Number,
+}
+
+impl Number {
+    pub const ZERO: Number = Number { value: 0 };
+
+    /// The number, where it is within the range.
+    pub fn make(value: i128) -> Result<Number, TooWide>
+        ensures { OkIff result (IsInRange value) value }
+    {
+        if value == i128::MIN {
+            Err(TooWide)
+        } else {
+            Ok(Number { value })
+        }
+    }
+
+    /// A number that is known to be within the range.
+    pub fn known(value: i128) -> Number
+        requires { IsInRange value }
+        ensures { result ≡ value }
+    {
+        Number { value }
+    }
+
+    /// The number as a plain one.
+    pub fn get(self) -> i128
+        ensures value { result ≡ self }
+        ensures in_range { IsInRange self }
+    {
+        self.value
+    }
+
+    /// The sum.
+    pub fn plus(self, other: Number) -> Result<Number, TooWide>
+        ensures { OkIff result (IsInRange (self +ℤ other)) (self +ℤ other) }
+    {
+        match self.value.checked_add(other.value) {
+            Some(sum) => Number::make(sum),
+            None => Err(TooWide),
+        }
+    }
+
+    /// The difference.
+    pub fn minus(self, other: Number) -> Result<Number, TooWide>
+        ensures { OkIff result (IsInRange (self -ℤ other)) (self -ℤ other) }
+    {
+        match self.value.checked_sub(other.value) {
+            Some(difference) => Number::make(difference),
+            None => Err(TooWide),
+        }
+    }
+
+    /// The product.
+    pub fn times(self, other: Number) -> Result<Number, TooWide>
+        ensures { OkIff result (IsInRange (self *ℤ other)) (self *ℤ other) }
+    {
+        match self.value.checked_mul(other.value) {
+            Some(product) => Number::make(product),
+            None => Err(TooWide),
+        }
+    }
+
+    /// The number with the other sign.
+    pub fn negated(self) -> Number
+        ensures { result ≡ neg_ℤ self }
+    {
+        Number { value: -self.value }
+    }
+
+    /// The quotient, rounded toward 0.
+    pub fn quotient(self, divisor: Number) -> Number
+        requires { pos 0 <ℤ divisor }
+        ensures { result ≡ int_div self divisor }
+    {
+        Number {
+            value: self.value / divisor.value,
+        }
+    }
+
+    /// The quotient rounded down, and the rest.
+    pub fn divide(self, divisor: Number) -> Division
+        requires { pos 0 <ℤ divisor }
+        ensures whole { self ≡ result.floor *ℤ divisor +ℤ result.rest }
+        ensures rest { (pos 0 ≤ℤ result.rest) × (result.rest <ℤ divisor) }
+    {
+        let floor = self.value / divisor.value;
+        let rest = self.value % divisor.value;
+        if rest < 0 {
+            Division {
+                floor: Number { value: floor - 1 },
+                rest: Number {
+                    value: rest + divisor.value,
+                },
+            }
+        } else {
+            Division {
+                floor: Number { value: floor },
+                rest: Number { value: rest },
+            }
+        }
+    }
+
+    /// The greatest common divisor, 0 where both numbers are 0.
+    pub fn common_divisor(self, other: Number) -> Number
+        ensures divisor { IsGcdOf self other (unsigned_abs result) }
+        ensures sign { pos 0 ≤ℤ result }
+    {
+        let divisor = greatest_common_divisor(
+            self.value.unsigned_abs(),
+            other.value.unsigned_abs(),
+        );
+        Number {
+            value: divisor as i128,
+        }
+    }
+}
+
+// Euclid's algorithm.
+fn greatest_common_divisor(a: u128, b: u128) -> u128
+    ensures { IsGcd a b result }
+{
+    let mut x = a;
+    let mut y = b;
+    while y != 0 {
+        let rest = x % y;
+        x = y;
+        y = rest;
+    }
+    x
+}
