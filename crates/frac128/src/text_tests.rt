@@ -65,6 +65,7 @@ fn quotients(rt: HostRuntime) -> Result<(), Fail> {
         ("400/7", "57.14"),
         ("5/7", "0.71"),
         ("2/7", "0.29"),
+        ("2/3", "0.67"),
         ("100", "100.00"),
     ] {
         assert_eq!(rt; rounded(rt.alloc(), text, 2)?.as_str(), want);
