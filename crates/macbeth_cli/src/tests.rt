@@ -1,6 +1,6 @@
 use super::*;
 use line_io::{MemSink, MemSource, NeverSink, NeverSource, Sink, Source};
-use session_edits::{Command, Name, Parsed, Reply, Session, read_command, text};
+use session_edits::{Command, Name, Parsed, Reply, read_command, text};
 use std::alloc::Global;
 use std::test::Fail;
 
@@ -189,21 +189,22 @@ fn ends_of_input(rt: HostRuntime) -> Result<(), Fail> {
 }
 
 #[test]
-fn calls_that_take_memory(rt: HostRuntime) -> Result<(), Fail> {
-    let alloc = rt.alloc();
-    let name = Name::check(alloc, b"c1")?.ok_or("a name")?;
+fn names(rt: HostRuntime) -> Result<(), Fail> {
+    let name = Name::check(rt.alloc(), b"c1")?.ok_or("a name")?;
     assert_eq!(rt; name.copy()?.as_str(), "c1");
-    assert!(rt; Name::check(alloc, b"c-1")?.is_none());
-    let parsed = read_command(alloc, b"criterion c A B")?;
-    assert!(rt; matches!(parsed, Parsed::Do(Command::Criterion(_, _))));
-    let mut session = Session::start(alloc);
-    if let Parsed::Do(command) = parsed {
-        assert!(rt; matches!(session.apply(&command)?, Reply::Ok));
-        let refusal = session.apply(&command)?;
-        assert_eq!(rt;
-            text(alloc, &refusal)?.as_str(),
-            "refused 3 unknown command\n"
-        );
-    }
+    assert!(rt; Name::check(rt.alloc(), b"c-1")?.is_none());
+    Ok(())
+}
+
+#[test]
+fn commands(rt: HostRuntime) -> Result<(), Fail> {
+    let parsed = read_command(rt.alloc(), b"quit")?;
+    assert!(rt; matches!(parsed, Parsed::Do(Command::Quit)));
+    Ok(())
+}
+
+#[test]
+fn texts(rt: HostRuntime) -> Result<(), Fail> {
+    assert_eq!(rt; text(rt.alloc(), &Reply::Meets)?.as_str(), "meets\n");
     Ok(())
 }
