@@ -51,8 +51,8 @@ impl Frac {
         }
     }
 
-    // The fraction in lowest terms.
-    fn reduced(num: Number, den: Number) -> Frac
+    /// The fraction of numbers whose type keeps the range, in lowest terms.
+    pub fn reduced(num: Number, den: Number) -> Frac
         requires { pos 0 <ℤ den }
         ensures value { result.num *ℤ den ≡ num *ℤ result.den }
         ensures lowest { IsReduced result }

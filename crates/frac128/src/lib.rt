@@ -16,7 +16,7 @@ mod text_tests;
 
 pub use frac::Frac;
 pub use list::List;
-pub use number::TooWide;
-pub use order::compare;
+pub use number::{Division, Number, TooWide};
+pub use order::{compare, compare_numbers};
 pub use reading::{FracFault, read_frac};
 pub use std::alloc::AllocError as NoMemory;

@@ -40,6 +40,8 @@ pub struct Division {
 impl Number {
     pub const ZERO: Number = Number { value: 0 };
 
+    pub const ONE: Number = Number { value: 1 };
+
     /// The number, where it is within the range.
     pub fn make(value: i128) -> Result<Number, TooWide>
         ensures { OkIff result (IsInRange value) value }

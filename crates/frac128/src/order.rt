@@ -22,8 +22,9 @@ pub fn compare(a: i128, b: i128, c: i128, d: i128) -> Ordering
     )
 }
 
+/// The same for numbers whose type keeps the range.
 // Where the whole parts agree, r / b and s / d are left, which compare as d / s and b / r do.
-pub(crate) fn compare_numbers(a: Number, b: Number, c: Number, d: Number) -> Ordering
+pub fn compare_numbers(a: Number, b: Number, c: Number, d: Number) -> Ordering
     requires { (pos 0 <ℤ b) × (pos 0 <ℤ d) }
     ensures { result ≡ int_cmp (a *ℤ d) (c *ℤ b) }
 {

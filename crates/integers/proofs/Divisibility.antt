@@ -7,9 +7,9 @@ use Rattle.std.proofs.lemmas.Int.{unsigned_abs-mul}
 use Rattle.std.proofs.lemmas.List.Elements.{All-nil, All-cons, All-head, All-tail}
 use Rattle.std.proofs.lemmas.Nat.Gcd.{dvd_refl, dvd-zero, dvd_trans, dvd_antisymm}
 use Rattle.std.proofs.Common.{◌≡◌, ◌↔◌, ℕ, zero, suc, ◌+◌, ◌*◌, ◌/◌, ◌<◌, length, get_or, drop, List, [], ◌∷◌, ℤ, pos, negsuc, ◌*ℤ◌, neg_ℤ, ◌<ℤ◌, unsigned_abs, int_div, refl, sym, ap, ap₂, subst, subst₂, ◌∙◌, arith, add-one, drop-cons}
-use Rattle.integers.specs.Divisibility.{IsLowest, IsGcdOf, DividesAll, IsGcdOfAll, quotients}
+use Rattle.integers.specs.Divisibility.{IsLowest, IsGcdOf, DividesAll, IsGcdOfAll, quotients, divisor_of_all}
 use Rattle.integers.specs.Vector.{dot, scale}
-use Rattle.integers.proofs.Gcd.{IsGcd-exists, dvd_of_coprime, AreCoprime-divided}
+use Rattle.integers.proofs.Gcd.{IsGcd-exists, IsGcd-common_divisor, dvd_of_coprime, AreCoprime-divided}
 use Rattle.integers.proofs.Laws.{*ℤ-neg_ℤ, lin}
 use Rattle.integers.proofs.Order.{cancel_eq, divided_pos, divided_same}
 use Rattle.integers.proofs.Vector.{dot-scale}
@@ -172,6 +172,11 @@ lowest_terms a b g p h =
 -- a common divisor divides each dot product
 pub dvd-dot : (d : ℕ) (xs us : List ℤ) → DividesAll d xs → d ∣ unsigned_abs (dot xs us)
 dvd-dot d xs us h = subst (λ n. d ∣ n) (sym (unsigned_abs-mul (pos d) (dot (quotients xs (pos d)) us)) ∙ ap unsigned_abs (dot-quotients d xs us h)) (dvd-mul_right d (unsigned_abs (dot (quotients xs (pos d)) us)))
+
+-- `divisor_of_all` is the greatest common divisor
+pub IsGcdOfAll-divisor_of_all : (xs : List ℤ) → IsGcdOfAll xs (divisor_of_all xs)
+IsGcdOfAll-divisor_of_all [] = IsGcdOfAll-nil
+IsGcdOfAll-divisor_of_all (x ∷ xs) = IsGcdOfAll-cons x xs (divisor_of_all xs) (divisor_of_all (x ∷ xs)) (IsGcdOfAll-divisor_of_all xs) (IsGcd-common_divisor (unsigned_abs x) (divisor_of_all xs))
 
 -- ---- for loops
 

@@ -4,8 +4,9 @@ use borrow.Author.Tests.{eqb-true}
 use Rattle.std.specs.Int.{IsGcd}
 use Rattle.std.proofs.Math.Nat.{dvd-mul_right, mul-dvd-mul_right, dvd_of_mul-dvd-mul_right, mul-add-mod_self_right, mod-eq_of_lt, mod-lt, div-add-mod', mul-lt-mul_of_pos_right, one-mul, eq-zero-or-pos}
 use Rattle.std.proofs.lemmas.Nat.Gcd.{dvd-zero, dvd_antisymm, IsGcd-from_zero, IsGcd-from_mod, same_from_IsGcd}
-use Rattle.std.proofs.Common.{◌≡◌, ◌⊎◌, inl, inr, ◌↔◌, ℕ, zero, suc, ◌+◌, ◌*◌, ◌/◌, ◌%◌, ◌<◌, IsTrue, nat_eq, refl, sym, ap, subst, ◌∙◌, arith}
-use Rattle.integers.specs.Divisibility.{AreCoprime}
+use Rattle.std.proofs.Common.{◌≡◌, ◌⊎◌, inl, inr, ◌↔◌, ℕ, zero, suc, ◌+◌, ◌*◌, ◌/◌, ◌%◌, ◌<◌, Bool, true, false, IsTrue, nat_eq, refl, sym, ap, subst, ◌∙◌, arith}
+use mathlib.Core.Bool.{true≢false}
+use Rattle.integers.specs.Divisibility.{AreCoprime, divisor_within, common_divisor}
 
 -- a factor comes out of a remainder
 mul-mod-mul : (a b k : ℕ) → 0 < b → 0 < k → (a * k) % (b * k) ≡ (a % b) * k
@@ -74,3 +75,20 @@ AreCoprime-test a b g h = (
   λ t. (AreCoprime-IsGcd a b).1 (subst (λ n. IsGcd a b n) (eqb-true g 1 t) h),
   λ p. subst (λ n. IsTrue (nat_eq n 1)) (sym (p g h.0 h.1)) refl,
 )
+
+-- with steps enough Euclid's algorithm gives the greatest common divisor
+IsGcd-divisor_within : (steps a b : ℕ) → b < steps → IsGcd a b (divisor_within steps a b)
+IsGcd-divisor_within zero a b h = absurd (omega arith)
+IsGcd-divisor_within (suc steps) a b h = step (nat_eq b 0) refl (λ p. IsGcd-divisor_within steps b (a % b) (let less = mod-lt a p in omega arith))
+  where
+    step : (t : Bool) → nat_eq b 0 ≡ t → (0 < b → IsGcd b (a % b) (divisor_within steps b (a % b))) → IsGcd a b (elim t [ true ↦ a | false ↦ divisor_within steps b (a % b) ])
+    step true e rest = IsGcd-from_zero a b (eqb-true b 0 e)
+    step false e rest = positive (eq-zero-or-pos b)
+      where
+        positive : (b ≡ 0) ⊎ 0 < b → IsGcd a b (divisor_within steps b (a % b))
+        positive (inl z) = absurd (true≢false (sym (ap (λ n. nat_eq n 0) z) ∙ e))
+        positive (inr p) = IsGcd-from_mod a b (divisor_within steps b (a % b)) (rest p)
+
+-- the greatest common divisor is one
+pub IsGcd-common_divisor : (a b : ℕ) → IsGcd a b (common_divisor a b)
+IsGcd-common_divisor a b = IsGcd-divisor_within (suc b) a b (omega arith)

@@ -1,7 +1,7 @@
 -- Common divisors of whole numbers, by their absolute values.
 use Prim.Native.Nat.{◌∣◌}
 use Rattle.std.specs.Int.{IsGcd}
-use Rattle.std.specs.Prelude.{◌≡◌, ℕ, List, ℤ, map, All, unsigned_abs, int_div}
+use Rattle.std.specs.Prelude.{◌≡◌, ℕ, zero, suc, ◌%◌, true, false, nat_eq, List, [], ◌∷◌, ℤ, map, All, unsigned_abs, int_div}
 
 -- no number but 1 divides both
 abbrev pub AreCoprime : ℕ → ℕ → Type 0
@@ -26,3 +26,17 @@ IsGcdOfAll xs g = DividesAll g xs × ((d : ℕ) → DividesAll d xs → d ∣ g)
 -- each number divided by d, rounded toward 0
 abbrev pub quotients : List ℤ → ℤ → List ℤ
 quotients xs d = map (λ x. int_div x d) xs
+
+-- Euclid's algorithm, with at most so many steps
+abbrev pub divisor_within : ℕ → ℕ → ℕ → ℕ
+divisor_within zero a b = a
+divisor_within (suc steps) a b = elim (nat_eq b 0) [ true ↦ a | false ↦ divisor_within steps b (a % b) ]
+
+-- the greatest common divisor of two naturals, 0 where both are 0
+abbrev pub common_divisor : ℕ → ℕ → ℕ
+common_divisor a b = divisor_within (suc b) a b
+
+-- the greatest common divisor of the numbers, 0 where all are 0
+abbrev pub divisor_of_all : List ℤ → ℕ
+divisor_of_all [] = 0
+divisor_of_all (x ∷ xs) = common_divisor (unsigned_abs x) (divisor_of_all xs)

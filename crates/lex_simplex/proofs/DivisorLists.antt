@@ -1,0 +1,52 @@
+-- The greatest common divisor of a list, number by number.
+use Prim.Native.Nat.{◌∣◌}
+use Rattle.std.specs.Int.{IsGcd}
+use Rattle.std.proofs.Math.Nat.{one-dvd}
+use Rattle.std.proofs.lemmas.Nat.Gcd.{dvd_trans}
+use Rattle.std.proofs.Common.{◌≡◌, ◌↔◌, ℕ, ◌+◌, ◌<◌, ◌≤◌, length, get_or, drop, List, [], ◌∷◌, ℤ, pos, unsigned_abs, int_div, refl, sym, ap₂, subst, ◌∙◌}
+use Rattle.std.proofs.lemmas.List.{drop_all}
+use Rattle.integers.proofs.Laws.{one-*ℤ}
+use Rattle.integers.specs.Divisibility.{DividesAll, IsGcdOfAll, quotients}
+use Rattle.integers.proofs.Divisibility.{DividesAll-nil, DividesAll-drop_more, IsGcdOfAll-divisors, int_div-mul_cancel}
+use Rattle.lex_simplex.proofs.RowLists.{get_or-default}
+
+-- the common divisors of the list, once its numbers before the place i have the divisor g
+pub record HasSoFar (xs : List ℤ) (i g : ℕ) : Type 0 where
+  pub divisors : (d : ℕ) → DividesAll d xs ↔ (d ∣ g) × DividesAll d (drop i xs)
+
+-- one number more
+pub HasSoFar-next : (xs : List ℤ) (i : ℕ) (x g h : ℤ) → i < length xs → x ≡ get_or xs i x → IsGcd (unsigned_abs g) (unsigned_abs x) (unsigned_abs h) → HasSoFar xs i (unsigned_abs g) → HasSoFar xs (i + 1) (unsigned_abs h)
+HasSoFar-next xs i x g h below read gcd has = record { divisors = λ d. (to d, from d) }
+  where
+    is : x ≡ get_or xs i (pos 0)
+    is = read ∙ get_or-default xs i x (pos 0) below
+
+    to : (d : ℕ) → DividesAll d xs → (d ∣ unsigned_abs h) × DividesAll d (drop (i + 1) xs)
+    to d all =
+        let both = (has.divisors d).0 all in
+        let more = (DividesAll-drop_more d i xs below).0 both.1 in
+        (gcd.2 d both.0 (subst (λ z. d ∣ unsigned_abs z) (sym is) more.0), more.1)
+
+    from : (d : ℕ) → (d ∣ unsigned_abs h) × DividesAll d (drop (i + 1) xs) → DividesAll d xs
+    from d p = (has.divisors d).1 (dvd_trans d p.0 gcd.0, (DividesAll-drop_more d i xs below).1 (subst (λ z. d ∣ unsigned_abs z) is (dvd_trans d p.0 gcd.1), p.1))
+
+-- at the list's end the divisor is that of all
+pub HasSoFar-all : (xs : List ℤ) (i g : ℕ) → length xs ≤ i → HasSoFar xs i g → IsGcdOfAll xs g
+HasSoFar-all xs i g end has = (IsGcdOfAll-divisors xs g).1 (λ d. (λ all. ((has.divisors d).0 all).0, λ p. (has.divisors d).1 (p, subst (DividesAll d) (sym (drop_all i xs end)) (DividesAll-nil d))))
+
+-- every list is divided by 1
+one_divides : (xs : List ℤ) → DividesAll 1 xs
+one_divides xs k d h = one-dvd (unsigned_abs (get_or xs k d))
+
+-- the divisor 1 is final
+pub HasSoFar-one : (xs : List ℤ) (i g : ℕ) → g ≡ 1 → HasSoFar xs i g → IsGcdOfAll xs g
+HasSoFar-one xs i g e has = (subst (λ n. DividesAll n xs) (sym e) (one_divides xs), λ d all. ((has.divisors d).0 all).0)
+
+-- divided by 1 a number is itself
+int_div-one : (x : ℤ) → int_div x (pos 1) ≡ x
+int_div-one x = sym (one-*ℤ (int_div x (pos 1))) ∙ int_div-mul_cancel x 1 (one-dvd (unsigned_abs x))
+
+-- and so is a list
+pub quotients-one : (xs : List ℤ) → quotients xs (pos 1) ≡ xs
+quotients-one [] = refl
+quotients-one (x ∷ xs) = ap₂ (λ a b. a ∷ b) (int_div-one x) (quotients-one xs)

@@ -1,0 +1,60 @@
+-- What is read from the last tableau of a run.
+use Rattle.std.specs.Prelude.{ℕ, All, Bool, suc, true, false, List, [], ◌∷◌, set, drop, length, replicate, ℤ, pos, negsuc}
+use Rattle.std.specs.Ordering.{int_eq}
+use Rattle.frac128.specs.Problem.{ProblemData, IsLeast, IsInfeasible, IsSpanCertificate, IsFarkasCertificate, cost_at}
+use Rattle.frac128.specs.Frac.{IsReduced}
+use Rattle.lex_simplex.specs.declared.outcome.Outcome.{Outcome}
+use Rattle.lex_simplex.specs.declared.outcome.Outcome.TheVariants.{Least, Nothing}
+use Rattle.integers.specs.Fraction.{Fraction, over, SameFraction, SameFractions}
+use Rattle.integers.specs.Vector.{scale}
+use Rattle.lex_simplex.specs.Tableau.{Tableau, row_of}
+
+-- the fractions are the numbers of the least point
+pub record IsLeastPoint (p : ProblemData) (fs : List Fraction) : Type 0 where
+  pub x : List ℤ
+  pub n : ℤ
+  pub same : SameFractions (over x n) fs
+  pub least : IsLeast p x n
+
+-- they are the numbers of the least point and its cost, in lowest terms
+pub record IsLeastAnswer (p : ProblemData) (point : List Fraction) (value : Fraction) : Type 0 where
+  pub x : List ℤ
+  pub n : ℤ
+  pub same : SameFractions (over x n) point
+  pub least : IsLeast p x n
+  pub cost : SameFraction (cost_at p x n) value
+  pub point_reduced : All IsReduced point
+  pub value_reduced : IsReduced value
+
+-- what the outcome says of the problem is so
+abbrev pub IsOutcome : ProblemData → Outcome → Type 0
+IsOutcome p (Least point value cert) = IsLeastAnswer p point value × IsSpanCertificate p cert value
+IsOutcome p (Nothing cert) = IsInfeasible p × IsFarkasCertificate p cert
+
+-- whether the outcome is a least point
+abbrev pub is_least : Outcome → Bool
+is_least (Least point value cert) = true
+is_least (Nothing cert) = false
+
+-- weights of quantities, with each column's number at the place of its quantity
+abbrev pub spread : List ℕ → List ℤ → List ℤ → List ℤ
+spread [] ys weights = weights
+spread (c ∷ cs) [] weights = weights
+spread (c ∷ cs) (y ∷ ys) weights = spread cs ys (set weights c y)
+
+-- the weights other than 0, each with its place, counted from i
+abbrev pub entries_from : ℕ → List ℤ → List (ℕ × ℤ)
+entries_from i [] = []
+entries_from i (w ∷ ws) = elim (int_eq w (pos 0)) [ true ↦ entries_from (suc i) ws | false ↦ (i, w) ∷ entries_from (suc i) ws ]
+
+-- the weights of the problem's rows, which stand after those of the variables
+abbrev pub row_entries : ℕ → List ℤ → List (ℕ × ℤ)
+row_entries vars weights = entries_from 0 (drop vars weights)
+
+-- with these weights the quantities sum to the cost row's equation
+abbrev pub optimal_weights : Tableau → List ℤ
+optimal_weights t = spread t.columns t.cost.coefs (replicate (length t.rows) (pos 0))
+
+-- with these the quantities sum to the equation of the row r
+abbrev pub empty_weights : Tableau → ℕ → List ℤ
+empty_weights t r = set (spread t.columns (scale (negsuc 0) (row_of t r).coefs) (replicate (length t.rows) (pos 0))) r (row_of t r).den

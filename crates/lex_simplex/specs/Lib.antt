@@ -1,0 +1,9 @@
+pub mod Answer
+pub mod Bound
+pub mod Cells
+pub mod Columns
+pub mod Equations
+pub mod Pivot
+pub mod State
+pub mod Tableau
+pub mod Turn
