@@ -33,7 +33,7 @@ length-row width count xs i h e =
     ap length (get_or-rows_in width count xs i h) ∙ omega (arith, length-take width (drop (i * width) xs), length-drop (i * width) xs)
 
 -- rows one after the other
-rows_in-append : {A : Type 0} (width count : ℕ) (xs ys : List A) → length xs ≡ width → rows_in width (suc count) (xs ++ ys) ≡ xs ∷ rows_in width count ys
+pub rows_in-append : {A : Type 0} (width count : ℕ) (xs ys : List A) → length xs ≡ width → rows_in width (suc count) (xs ++ ys) ≡ xs ∷ rows_in width count ys
 rows_in-append width count xs ys e = subst (λ w. take w (xs ++ ys) ∷ rows_in width count (drop w (xs ++ ys)) ≡ xs ∷ rows_in width count ys) e (ap₂ (λ a b. a ∷ rows_in width count b) (take-append_seam xs ys) (drop-append_seam xs ys))
 
 -- other numbers in the place of a row's

@@ -20,6 +20,15 @@ pub record AreCells (columns : List ℕ) (rows : List (List ℤ)) : Type 0 where
 abbrev pub with_part : {A : Type 0} → List A → ℕ → List A → List A
 with_part xs start ys = take start xs ++ ys ++ drop (start + length ys) xs
 
+-- rows one after the other
+abbrev pub joined : {A : Type 0} → List (List A) → List A
+joined [] = []
+joined (row ∷ rows) = row ++ joined rows
+
+-- the cells of a row
+abbrev pub cells_of : TableRow → List ℤ
+cells_of row = row.den ∷ row.constant ∷ row.coefs
+
 -- the row of these cells
 abbrev pub row_in : List ℤ → TableRow
 row_in cells = record { den = get_or cells 0 (pos 0); constant = get_or cells 1 (pos 0); coefs = drop 2 cells }

@@ -1,9 +1,13 @@
 pub mod Answer
 pub mod Bound
+pub mod Candidate
 pub mod Cells
 pub mod Columns
+pub mod Count
 pub mod Equations
 pub mod Pivot
+pub mod Run
 pub mod State
 pub mod Tableau
 pub mod Turn
+pub mod Turned

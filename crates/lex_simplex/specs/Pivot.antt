@@ -1,8 +1,9 @@
 -- Where a turn pivots, in words of order alone.
-use Rattle.std.specs.Prelude.{ℕ, ◌<◌, ◌≢◌, length, pos, ◌≤ℤ◌, ◌<ℤ◌}
+use Rattle.std.specs.Prelude.{ℕ, ◌<◌, ◌≢◌, length, All, pos, ◌≤ℤ◌, ◌<ℤ◌}
+use Rattle.frac128.specs.Range.{IsInRange}
 use Rattle.integers.specs.Lexicographic.{LexLess}
 use Rattle.lex_simplex.specs.Tableau.{Tableau, row_of, entry}
-use Rattle.lex_simplex.specs.Turn.{ratios}
+use Rattle.lex_simplex.specs.Turn.{ratios, pivot_numbers}
 
 -- r is the first quantity whose constant is negative
 pub record IsLeaving (t : Tableau) (r : ℕ) : Type 0 where
@@ -15,3 +16,7 @@ pub record IsEntering (t : Tableau) (r e : ℕ) : Type 0 where
   pub below : e < length t.columns
   pub positive : pos 0 <ℤ entry (row_of t r) e
   pub least : (f : ℕ) → f < length t.columns → f ≢ e → pos 0 <ℤ entry (row_of t r) f → LexLess (ratios t r e) (ratios t r f)
+
+-- each product and difference that the pivot forms, before rows are divided, is in the range
+pub record PivotFits (t : Tableau) (r e : ℕ) : Type 0 where
+  pub in_range : All IsInRange (pivot_numbers t r e)

@@ -1,6 +1,7 @@
 -- A table between turns: its tableau, and how its run ended, if it did.
-use Rattle.std.specs.Prelude.{◌≡◌, Option, Some, None, Result, Ok, Err, ⊤}
+use Rattle.std.specs.Prelude.{◌≡◌, ℕ, ◌+◌, List, length, ℤ, Option, Some, None, Result, Ok, Err, ⊤}
 use Rattle.frac128.specs.Problem.{ProblemData, IsProblem}
+use Rattle.lex_simplex.specs.Cells.{AreCells, tableau_in}
 use Rattle.lex_simplex.specs.Equations.{IsTableauOf}
 use Rattle.lex_simplex.specs.Tableau.{Tableau}
 use Rattle.lex_simplex.specs.Turn.{turn, ended}
@@ -16,8 +17,14 @@ pub record TableData : Type 0 where
 abbrev pub HasProblem : Tableau → Type 0
 HasProblem t = (p : ProblemData) × IsProblem p × IsTableauOf p t
 
--- a tableau of some problem, and where the run has ended with one the turn from it ends so
-abbrev pub IsSound : Tableau → Option (Result End PivotFault) → Type 0
-IsSound t None = HasProblem t
-IsSound t (Some (Ok end)) = HasProblem t × (turn t ≡ ended (Ok end))
-IsSound t (Some (Err fault)) = ⊤
+-- cells of such a tableau, with room for a row of them
+pub record IsRunning (columns : List ℕ) (rows : List (List ℤ)) (room : List ℤ) : Type 0 where
+  pub cells : AreCells columns rows
+  pub room_fits : length room ≡ length columns + 2
+  pub tableau : HasProblem (tableau_in rows columns)
+
+-- where the run has ended with such a tableau the turn from it ends so
+abbrev pub IsKept : List ℕ → List (List ℤ) → List ℤ → Option (Result End PivotFault) → Type 0
+IsKept columns rows room None = IsRunning columns rows room
+IsKept columns rows room (Some (Ok end)) = IsRunning columns rows room × (turn (tableau_in rows columns) ≡ ended (Ok end))
+IsKept columns rows room (Some (Err fault)) = ⊤

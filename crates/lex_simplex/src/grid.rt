@@ -1,6 +1,6 @@
 //! Rows of numbers of one length, one after the other in one vector.
 
-ghost use Rattle.lex_simplex.specs.Cells.{exchanged, ExchangeFits, CanExchange, with_part};
+ghost use Rattle.lex_simplex.specs.Cells.{exchanged, ExchangeFits, CanExchange, rows_in, with_part};
 ghost use Rattle.std.specs.Prelude.{◌≡◌, ℕ, ◌+◌, ◌*◌, ◌<◌, ◌≤◌, ◌++◌, List, [], length, get_or, set, take, drop, ℤ, pos, ◌<ℤ◌, IfOk, OnErr, OnOk};
 
 use crate::numbers::exchange;
@@ -27,12 +27,29 @@ impl Model for Grid {
 }
 
 impl Grid {
+    /// The rows that stand one after the other in the cells.
+    pub(crate) fn make(cells: Vec<Number>, width: usize, count: usize) -> Grid
+        requires { length cells.items ≡ count * width }
+        ensures { result ≡ rows_in width count cells.items }
+    {
+        Grid { cells, width, count }
+    }
+
     /// The row at a place.
     pub(crate) fn row(&self, place: usize) -> &[Number]
         requires { place < length self.now }
         ensures { result.now ≡ get_or self.now place [] }
     {
         part(self.cells.as_slice(), place, self.width)
+    }
+
+    /// The row of a quantity: the cost's row stands before the quantities'.
+    pub(crate) fn quantity(&self, quantity: usize) -> &[Number]
+        requires { quantity + 1 < length self.now }
+        ensures { result.now ≡ get_or self.now (quantity + 1) [] }
+    {
+        prove!(quantity < self.count());
+        self.row(quantity + 1)
     }
 
     /// How many rows there are.

@@ -1,10 +1,22 @@
 //! The exact simplex method with the lexicographic rule, on tableaus of whole numbers.
 #![tactic(auto)]
 
+mod choice;
+mod count;
 mod end;
 mod grid;
 mod numbers;
 mod outcome;
+mod pivot;
+mod reading;
+mod run;
+mod solver;
+mod start;
+mod table;
+mod turn;
 
+pub use count::Count;
 pub use end::{End, PivotFault};
 pub use outcome::Outcome;
+pub use solver::{SolveFault, solve};
+pub use table::Table;

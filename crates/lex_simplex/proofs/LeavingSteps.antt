@@ -1,0 +1,29 @@
+-- The walk over the quantities' rows for the pivot row.
+use Rattle.std.proofs.Common.{◌≡◌, ℕ, ◌+◌, ◌-◌, ◌<◌, ◌≤◌, length, get_or, List, [], ℤ, pos, ◌≤ℤ◌, ◌<ℤ◌, Some, None, sym, ap, subst, ◌∙◌, arith, below_more}
+use Rattle.lex_simplex.specs.Cells.{AreCells, row_in, tableau_in}
+use Rattle.lex_simplex.specs.Tableau.{Tableau, TableRow, row_of}
+use Rattle.lex_simplex.specs.Turn.{leaving}
+use Rattle.lex_simplex.proofs.CellReading.{length-cells}
+use Rattle.lex_simplex.proofs.ChoiceLemmas.{leaving-some, leaving-none}
+use Rattle.lex_simplex.proofs.RowLists.{get_or-default}
+
+-- the constant of a row, read from its cells
+pub constant_read : (row : TableRow) (cells : List ℤ) (x : ℤ) (n : ℕ) → length cells ≡ n + 2 → row_in cells ≡ row → x ≡ get_or cells 1 x → row.constant ≡ x
+constant_read row cells x n wide is read = ap (λ (r : TableRow). r.constant) (sym is) ∙ sym (read ∙ get_or-default cells 1 x (pos 0) (omega arith))
+
+-- a quantity is within the rows where its place is before the last row's
+pub quantity_within : (columns : List ℕ) (rows : List (List ℤ)) (i n : ℕ) → AreCells columns rows → n ≡ length rows → i < n - 1 → i < length (tableau_in rows columns).rows
+quantity_within columns rows i n cells e h = omega (arith, length-cells columns rows cells)
+
+-- a negative constant behind none
+pub leaving_found : (t : Tableau) (r : ℕ) (x : ℤ) → (row_of t r).constant ≡ x → x <ℤ pos 0 → r < length t.rows → ((k : ℕ) → k < r → pos 0 ≤ℤ (row_of t k).constant) → Some r ≡ leaving t
+leaving_found t r x is negative below first = sym ((leaving-some t r).1 record { below = below; negative = subst (λ z. z <ℤ pos 0) (sym is) negative; first = first })
+
+-- one more constant that is not negative
+pub leaving_more : (t : Tableau) (r : ℕ) (x : ℤ) → (row_of t r).constant ≡ x → pos 0 ≤ℤ x → ((k : ℕ) → k < r → pos 0 ≤ℤ (row_of t k).constant) → (k : ℕ) → k < r + 1 → pos 0 ≤ℤ (row_of t k).constant
+leaving_more t r x is positive first = below_more (λ k. pos 0 ≤ℤ (row_of t k).constant) r first (subst (λ z. pos 0 ≤ℤ z) (sym is) positive)
+
+-- no negative constant in any row
+pub leaving_missed : (columns : List ℕ) (rows : List (List ℤ)) (i n : ℕ) → AreCells columns rows → n ≡ length rows → n - 1 ≤ i → ((k : ℕ) → k < i → pos 0 ≤ℤ (row_of (tableau_in rows columns) k).constant) → None ≡ leaving (tableau_in rows columns)
+leaving_missed columns rows i n cells e h first =
+    sym ((leaving-none (tableau_in rows columns)).1 (λ k d below. subst (λ (row : TableRow). pos 0 ≤ℤ row.constant) (get_or-default (tableau_in rows columns).rows k (record { den = pos 1; constant = pos 0; coefs = [] }) d below) (first k (omega (arith, length-cells columns rows cells)))))

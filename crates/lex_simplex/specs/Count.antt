@@ -1,0 +1,6 @@
+-- Counts that stay at the greatest 64-bit number.
+use Rattle.std.specs.Prelude.{ℕ, ◌+◌, ◌-◌, ◌^◌, min}
+
+-- the count with so many more
+abbrev pub raised : ℕ → ℕ → ℕ
+raised count more = min (count + more) (2 ^ 64 - 1)
