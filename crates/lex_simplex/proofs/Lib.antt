@@ -43,4 +43,5 @@ pub mod StartLemmas
 pub mod StartLists
 pub mod StartTable
 pub mod TurnLemmas
+pub mod UnitRows
 pub mod ValuesLemmas

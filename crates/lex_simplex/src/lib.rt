@@ -5,6 +5,7 @@ mod choice;
 mod count;
 mod end;
 mod grid;
+pub mod laws;
 mod numbers;
 mod outcome;
 mod pivot;

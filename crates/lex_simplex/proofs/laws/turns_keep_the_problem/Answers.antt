@@ -1,0 +1,9 @@
+use Rattle.lex_simplex.proofs.RunLemmas.{turns_are}
+use Rattle.lex_simplex.proofs.StartLemmas.{start_is}
+use Rattle.lex_simplex.proofs.laws.turns_keep_the_problem.Goals as goal
+
+pub returns-clause-start : goal.returns-clause-start
+returns-clause-start c = start_is c.args.problem.now c.vars.ensures.problem
+
+pub returns-clause-kept : goal.returns-clause-kept
+returns-clause-kept c n t s is turns = turns_are c.args.problem.now n t s is turns
