@@ -154,8 +154,25 @@ impl Number {
     }
 }
 
-// Euclid's algorithm.
+// Euclid's algorithm, which goes on with words of half the width once both numbers fit.
 fn greatest_common_divisor(a: u128, b: u128) -> u128
+    ensures { IsGcd a b result }
+{
+    let mut x = a;
+    let mut y = b;
+    while y != 0 {
+        if let (Ok(left), Ok(right)) = (u64::try_from(x), u64::try_from(y)) {
+            return u128::from(common_divisor_of_words(left, right));
+        }
+        let rest = x % y;
+        x = y;
+        y = rest;
+    }
+    x
+}
+
+// Euclid's algorithm.
+fn common_divisor_of_words(a: u64, b: u64) -> u64
     ensures { IsGcd a b result }
 {
     let mut x = a;

@@ -1,10 +1,13 @@
 //! Linear problems in whole numbers as plain data, and the certificates that speak of them.
 
-ghost use Rattle.std.specs.Prelude.{◌≡◌, ◌<ℤ◌, List as Items, ℤ, pos};
+ghost use Rattle.std.specs.Prelude.{◌≡◌, ◌<ℤ◌, List as Items, ℤ, pos, SomeIff};
 ghost use Rattle.frac128.specs.Problem.{IsProblem, IsFeasible, IsLeast, IsLowerBound, IsInfeasible, IsSpanCertificate, IsFarkasCertificate};
 ghost use Rattle.integers.specs.Fraction.{Fraction, over, SameFractions};
 
+mod check;
+
 use crate::List;
+use crate::problem::check::{are_in_range, are_not_negative, are_rows};
 use std::marker::Model;
 
 /// One condition on a point `x`: the sum of `coefs[j] * x[j]` over all variables is at least `bound`.
@@ -51,6 +54,22 @@ impl Problem {
         ensures { result ≡ record { vars = vars; cost = cost; rows = rows } }
     {
         Problem { vars, cost, rows }
+    }
+
+    /// The problem of these data, where they are one: one cost for each variable, none below 0, rows over the same variables,
+    /// and no number -2^127. It takes no memory.
+    pub fn checked(vars: usize, cost: List<i128>, rows: List<Row>) -> Option<Problem>
+        ensures { SomeIff result (IsProblem (record { vars = vars; cost = cost; rows = rows })) (record { vars = vars; cost = cost; rows = rows }) }
+    {
+        let costs = cost.as_slice();
+        if costs.len() == vars
+            && are_not_negative(costs)
+            && are_in_range(costs)
+            && are_rows(rows.as_slice(), vars)
+        {
+            return Some(Problem::make(vars, cost, rows));
+        }
+        None
     }
 
     /// How many variables there are.

@@ -1,5 +1,6 @@
-use crate::List;
 use crate::problem::{Problem, Row};
+use crate::{List, NoMemory};
+use std::alloc::Global;
 use std::test::Fail;
 
 #[test]
@@ -18,5 +19,57 @@ fn parts(rt: HostRuntime) -> Result<(), Fail> {
         assert_eq!(rt; row.coefs.as_slice(), [1, -1].as_slice());
         assert_eq!(rt; row.bound, 3);
     }
+    Ok(())
+}
+
+// Whether data with one row make a problem.
+fn is_accepted(
+    alloc: Global,
+    vars: usize,
+    cost: Vec<i128>,
+    coefs: Vec<i128>,
+    bound: i128,
+) -> Result<bool, NoMemory> {
+    let row = Row {
+        coefs: List::make(coefs),
+        bound,
+    };
+    let rows = List::make(vec![in alloc; row]?);
+    Ok(Problem::checked(vars, List::make(cost), rows).is_some())
+}
+
+#[test]
+fn accepted(rt: HostRuntime) -> Result<(), Fail> {
+    let alloc = rt.alloc();
+    let cost = vec![in alloc; 2, 0]?;
+    let coefs = vec![in alloc; 1, -1]?;
+    assert!(rt; is_accepted(alloc, 2, cost, coefs, 3)?);
+    Ok(())
+}
+
+#[test]
+fn cost_below_zero(rt: HostRuntime) -> Result<(), Fail> {
+    let alloc = rt.alloc();
+    let cost = vec![in alloc; 2, -5]?;
+    let coefs = vec![in alloc; 1, -1]?;
+    assert!(rt; !is_accepted(alloc, 2, cost, coefs, 3)?);
+    Ok(())
+}
+
+#[test]
+fn row_too_short(rt: HostRuntime) -> Result<(), Fail> {
+    let alloc = rt.alloc();
+    let cost = vec![in alloc; 2, 5]?;
+    let coefs = vec![in alloc; 1]?;
+    assert!(rt; !is_accepted(alloc, 2, cost, coefs, 3)?);
+    Ok(())
+}
+
+#[test]
+fn bound_out_of_range(rt: HostRuntime) -> Result<(), Fail> {
+    let alloc = rt.alloc();
+    let cost = vec![in alloc; 2, 5]?;
+    let coefs = vec![in alloc; 1, -1]?;
+    assert!(rt; !is_accepted(alloc, 2, cost, coefs, i128::MIN)?);
     Ok(())
 }
