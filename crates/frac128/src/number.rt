@@ -93,6 +93,11 @@ impl Number {
     pub fn times(self, other: Number) -> Result<Number, TooWide>
         ensures { OkIff result (IsInRange (self *ℤ other)) (self *ℤ other) }
     {
+        if let (Ok(left), Ok(right)) = (i64::try_from(self.value), i64::try_from(other.value)) {
+            return Ok(Number {
+                value: product_of_words(left, right),
+            });
+        }
         match self.value.checked_mul(other.value) {
             Some(product) => Number::make(product),
             None => Err(TooWide),
@@ -152,6 +157,14 @@ impl Number {
             value: divisor as i128,
         }
     }
+}
+
+// The product, which no two words take out of range.
+fn product_of_words(a: i64, b: i64) -> i128
+    ensures value { result ≡ a *ℤ b }
+    ensures in_range { IsInRange result }
+{
+    i128::from(a) * i128::from(b)
 }
 
 // Euclid's algorithm, which goes on with words of half the width once both numbers fit.

@@ -16,11 +16,11 @@ use Rattle.lex_simplex.proofs.CellSteps.{All-parts, StepFits-all, StepFits-set, 
 All-five : {A : Type 0} (P : A → Type 0) (a b c d e : A) (xs : List A) → All P (a ∷ b ∷ c ∷ d ∷ e ∷ xs) ↔ (P a × P b × P c × P d × P e × All P xs)
 All-five P a b c d e xs = (
   λ h.
-    let h1 : All P (b ∷ c ∷ d ∷ e ∷ xs) = All-tail P a (b ∷ c ∷ d ∷ e ∷ xs) h in
-    let h2 : All P (c ∷ d ∷ e ∷ xs) = All-tail P b (c ∷ d ∷ e ∷ xs) h1 in
-    let h3 : All P (d ∷ e ∷ xs) = All-tail P c (d ∷ e ∷ xs) h2 in
-    let h4 : All P (e ∷ xs) = All-tail P d (e ∷ xs) h3 in
-    (All-head P a (b ∷ c ∷ d ∷ e ∷ xs) h, All-head P b (c ∷ d ∷ e ∷ xs) h1, All-head P c (d ∷ e ∷ xs) h2, All-head P d (e ∷ xs) h3, All-head P e xs h4, All-tail P e xs h4),
+      let h1 : All P (b ∷ c ∷ d ∷ e ∷ xs) = All-tail P a (b ∷ c ∷ d ∷ e ∷ xs) h in
+      let h2 : All P (c ∷ d ∷ e ∷ xs) = All-tail P b (c ∷ d ∷ e ∷ xs) h1 in
+      let h3 : All P (d ∷ e ∷ xs) = All-tail P c (d ∷ e ∷ xs) h2 in
+      let h4 : All P (e ∷ xs) = All-tail P d (e ∷ xs) h3 in
+      (All-head P a (b ∷ c ∷ d ∷ e ∷ xs) h, All-head P b (c ∷ d ∷ e ∷ xs) h1, All-head P c (d ∷ e ∷ xs) h2, All-head P d (e ∷ xs) h3, All-head P e xs h4, All-tail P e xs h4),
   λ h. All-cons P a (b ∷ c ∷ d ∷ e ∷ xs) h.0 (All-cons P b (c ∷ d ∷ e ∷ xs) h.1 (All-cons P c (d ∷ e ∷ xs) h.2 (All-cons P d (e ∷ xs) h.3 (All-cons P e xs h.4 h.5)))),
 )
 
@@ -55,14 +55,14 @@ ExchangeFitsBy-row p q pivot e d b ts same h =
     let den = first_fits p q d in
     let corner = second_fits p q pivot.den in (
       λ f.
-        let parts = changed.0 f.1.1 in
-        let all = each.0 parts.1 in
-        five.1 (den.0 f.0, f.1.0.0, f.1.0.1, f.1.0.2, corner.0 parts.0, last.1 (front.1 (all.0, all.1), all.2)),
+          let parts = changed.0 f.1.1 in
+          let all = each.0 parts.1 in
+          five.1 (den.0 f.0, f.1.0.0, f.1.0.1, f.1.0.2, corner.0 parts.0, last.1 (front.1 (all.0, all.1), all.2)),
       λ f.
-        let parts = five.0 f in
-        let lists = last.0 parts.5 in
-        let multiples = front.0 lists.0 in
-        (den.1 parts.0, ((parts.1, parts.2, parts.3), changed.1 (corner.1 parts.4, each.1 (multiples.0, multiples.1, lists.1)))),
+          let parts = five.0 f in
+          let lists = last.0 parts.5 in
+          let multiples = front.0 lists.0 in
+          (den.1 parts.0, ((parts.1, parts.2, parts.3), changed.1 (corner.1 parts.4, each.1 (multiples.0, multiples.1, lists.1)))),
     )
 
 -- its products and differences are those of the cells

@@ -66,7 +66,7 @@ pushed_cells p none one two three n a b c =
     let variables : List (List ℤ) = map (λ (j : ℕ). cells_of (variable_row p.vars j)) (numbers_from 0 p.vars) in
     let surpluses : List (List ℤ) = map (λ (row : Row). cells_of (surplus_row row)) p.rows in
     let parts : map cells_of (map (variable_row p.vars) (numbers_from 0 p.vars) ++ map surplus_row p.rows) ≡ variables ++ surpluses =
-        map-append cells_of (map (variable_row p.vars) (numbers_from 0 p.vars)) (map surplus_row p.rows) ∙ ap₂ (λ a b. a ++ b) (map_twice (variable_row p.vars) cells_of (numbers_from 0 p.vars)) (map_twice surplus_row cells_of p.rows) in
+    map-append cells_of (map (variable_row p.vars) (numbers_from 0 p.vars)) (map surplus_row p.rows) ∙ ap₂ (λ a b. a ++ b) (map_twice (variable_row p.vars) cells_of (numbers_from 0 p.vars)) (map_twice surplus_row cells_of p.rows) in
     c ∙ ap (λ l. l ++ joined surpluses) (b ∙ ap (λ l. l ++ joined variables) (a ∙ ap (λ l. l ++ first) n))
     ∙ append_assoc first (joined variables) (joined surpluses)
     ∙ ap (λ l. first ++ l) (sym (joined-append variables surpluses) ∙ ap joined (sym parts))

@@ -16,7 +16,7 @@ use Rattle.lex_simplex.proofs.BasicPoint.{reach, get_or-in_columns, AllHold-at, 
 unit_product : (coefs us : List ℤ) (v j : ℕ) (den constant k : ℤ) → j < v → pos 0 <ℤ k → constant ≡ pos 0 → den *ℤ (k *ℤ get_or us j (pos 0)) ≡ constant *ℤ (k *ℤ pos 0) +ℤ dot coefs (scale k us) → dot coefs us ≡ dot (scale den (unit_vector v j)) us
 unit_product coefs us v j den constant k below positive none holds =
     cancel_eq (dot coefs us) (dot (scale den (unit_vector v j)) us) k positive
-        (combine9 (λ c u den constant k d e m z. c ⊗ k ≗ e ⊗ k ⇐ neg (con (pos 1)) ✶ (den ⊗ (k ⊗ u) ≗ constant ⊗ (k ⊗ con (pos 0)) ⊕ d) ∷ neg (con (pos 1)) ✶ (d ≗ k ⊗ c) ∷ neg k ✶ (e ≗ den ⊗ m) ∷ neg (k ⊗ den) ✶ (m ≗ u) ∷ []) refl (dot coefs us) (get_or us j (pos 0)) den constant k (dot coefs (scale k us)) (dot (scale den (unit_vector v j)) us) (dot (unit_vector v j) us) (pos 0) holds (dot-scale_right k coefs us) (dot-scale den (unit_vector v j) us) (dot_comm (unit_vector v j) us ∙ dot-unit_vector us v j below))
+    (combine9 (λ c u den constant k d e m z. c ⊗ k ≗ e ⊗ k ⇐ neg (con (pos 1)) ✶ (den ⊗ (k ⊗ u) ≗ constant ⊗ (k ⊗ con (pos 0)) ⊕ d) ∷ neg (con (pos 1)) ✶ (d ≗ k ⊗ c) ∷ neg k ✶ (e ≗ den ⊗ m) ∷ neg (k ⊗ den) ✶ (m ≗ u) ∷ []) refl (dot coefs us) (get_or us j (pos 0)) den constant k (dot coefs (scale k us)) (dot (scale den (unit_vector v j)) us) (dot (unit_vector v j) us) (pos 0) holds (dot-scale_right k coefs us) (dot-scale den (unit_vector v j) us) (dot_comm (unit_vector v j) us ∙ dot-unit_vector us v j below))
 
 -- the row of a column's quantity has the denominator in its own column and 0 in each other
 pub column_coefs : (p : ProblemData) (t : Tableau) → IsTableauOf p t → (j : ℕ) → j < length t.columns → (row_of t (get_or t.columns j 0)).coefs ≡ scale (row_of t (get_or t.columns j 0)).den (unit_vector p.vars j)

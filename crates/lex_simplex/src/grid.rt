@@ -32,7 +32,11 @@ impl Grid {
         requires { length cells.items ≡ count * width }
         ensures { result ≡ rows_in width count cells.items }
     {
-        Grid { cells, width, count }
+        Grid {
+            cells,
+            width,
+            count,
+        }
     }
 
     /// The row at a place.

@@ -19,7 +19,12 @@ pub(crate) fn prepare(room: &mut [Number], row: &[Number], column: usize)
 
 /// Makes of each row what a pivot makes of it, by the pivot row's prepared cells and its number in the pivot column, whose cells
 /// stand at `place`. Where it refuses, some product or difference is out of range, and the rows are of no use any more.
-pub(crate) fn pivot_rows(grid: &mut Grid, pivot: &[Number], place: usize, number: Number) -> Result<(), TooWide>
+pub(crate) fn pivot_rows(
+    grid: &mut Grid,
+    pivot: &[Number],
+    place: usize,
+    number: Number,
+) -> Result<(), TooWide>
     requires { All (CanExchange number place pivot.now) grid.old }
     ensures ok { OnOk result (ExchangesFit number place pivot.now grid.old) }
     ensures too_wide { OnErr result (¬ ExchangesFit number place pivot.now grid.old) }

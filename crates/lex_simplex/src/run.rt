@@ -12,7 +12,12 @@ use crate::turn::{Turned, turn};
 use frac128::Number;
 
 /// Makes turns until one ends, and counts the pivots.
-pub(crate) fn run(grid: &mut Grid, columns: &mut [usize], room: &mut [Number], pivots: &mut Count) -> Result<End, PivotFault>
+pub(crate) fn run(
+    grid: &mut Grid,
+    columns: &mut [usize],
+    room: &mut [Number],
+    pivots: &mut Count,
+) -> Result<End, PivotFault>
     requires { IsRunning columns.old grid.old room.old }
     ensures run { IsRunMade (tableau_in grid.old columns.old) pivots.old result (tableau_in grid.new columns.new) pivots.new }
     ensures kept { IsKept columns.new grid.new room.new (HasEnded result) }

@@ -78,7 +78,11 @@ fn push_surpluses(cells: &mut Vec<Number>, rows: &[Row], vars: usize) -> Result<
     ensures { IfOk result (λ _. cells.new.items ≡ cells.old.items ++ joined (map (λ (row : Row). cells_of (surplus_row row)) rows.now)) }
 {
     for row in rows {
-        push_row(cells, Number::known(row.bound).negated(), row.coefs.as_slice())?;
+        push_row(
+            cells,
+            Number::known(row.bound).negated(),
+            row.coefs.as_slice(),
+        )?;
     }
     Ok(())
 }

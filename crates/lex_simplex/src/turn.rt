@@ -44,7 +44,13 @@ pub(crate) fn turn(grid: &mut Grid, columns: &mut [usize], room: &mut [Number]) 
 }
 
 // The pivot on the row of a quantity and a column. Where it refuses, the table is of no use any more.
-fn pivot(grid: &mut Grid, columns: &mut [usize], room: &mut [Number], row: usize, column: usize) -> Result<(), TooWide>
+fn pivot(
+    grid: &mut Grid,
+    columns: &mut [usize],
+    room: &mut [Number],
+    row: usize,
+    column: usize,
+) -> Result<(), TooWide>
     requires cells { AreCells columns.old grid.old }
     requires room { length room.old ≡ length columns.old + 2 }
     requires tableau { HasProblem (tableau_in grid.old columns.old) }
