@@ -1,8 +1,10 @@
 -- What is read from the last tableau of a run.
-use Rattle.std.specs.Prelude.{ℕ, All, Bool, suc, true, false, List, [], ◌∷◌, set, drop, length, replicate, ℤ, pos, negsuc}
+use Rattle.std.specs.Prelude.{ℕ, All, suc, true, false, List, [], ◌∷◌, set, drop, length, replicate, ℤ, pos, negsuc}
 use Rattle.std.specs.Ordering.{int_eq}
 use Rattle.frac128.specs.Problem.{ProblemData, IsLeast, IsInfeasible, IsSpanCertificate, IsFarkasCertificate, cost_at}
 use Rattle.frac128.specs.Frac.{IsReduced}
+use Rattle.lex_simplex.specs.declared.end.End.{End}
+use Rattle.lex_simplex.specs.declared.end.End.TheVariants.{Optimal, Empty}
 use Rattle.lex_simplex.specs.declared.outcome.Outcome.{Outcome}
 use Rattle.lex_simplex.specs.declared.outcome.Outcome.TheVariants.{Least, Nothing}
 use Rattle.integers.specs.Fraction.{Fraction, over, SameFraction, SameFractions}
@@ -31,10 +33,10 @@ abbrev pub IsOutcome : ProblemData → Outcome → Type 0
 IsOutcome p (Least point value cert) = IsLeastAnswer p point value × IsSpanCertificate p cert value
 IsOutcome p (Nothing cert) = IsInfeasible p × IsFarkasCertificate p cert
 
--- whether the outcome is a least point
-abbrev pub is_least : Outcome → Bool
-is_least (Least point value cert) = true
-is_least (Nothing cert) = false
+-- the end of the run that the outcome tells
+abbrev pub end_of : Outcome → End
+end_of (Least point value cert) = Optimal
+end_of (Nothing cert) = Empty
 
 -- weights of quantities, with each column's number at the place of its quantity
 abbrev pub spread : List ℕ → List ℤ → List ℤ → List ℤ

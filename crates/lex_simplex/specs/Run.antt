@@ -1,17 +1,15 @@
 -- What code makes of tables and problems, by their runs.
 use Rattle.std.specs.Prelude.{◌≡◌, ℕ, Some, Result, Ok, Err, IfOk}
 use Rattle.frac128.specs.Problem.{ProblemData}
-use Rattle.lex_simplex.specs.Answer.{IsOutcome}
+use Rattle.lex_simplex.specs.Answer.{IsOutcome, end_of}
 use Rattle.lex_simplex.specs.Count.{raised}
 use Rattle.lex_simplex.specs.State.{TableData}
 use Rattle.lex_simplex.specs.Tableau.{Tableau}
 use Rattle.lex_simplex.specs.Turn.{IsRun, IsRunFrom, Turns}
 use Rattle.lex_simplex.specs.declared.end.End.{End}
-use Rattle.lex_simplex.specs.declared.end.End.TheVariants.{Optimal, Empty}
 use Rattle.lex_simplex.specs.declared.end.PivotFault.{PivotFault}
 use Rattle.lex_simplex.specs.declared.end.PivotFault.TheVariants as fault
 use Rattle.lex_simplex.specs.declared.outcome.Outcome.{Outcome}
-use Rattle.lex_simplex.specs.declared.outcome.Outcome.TheVariants.{Least, Nothing}
 use Rattle.lex_simplex.specs.declared.solver.SolveFault.{SolveFault}
 use Rattle.lex_simplex.specs.declared.solver.SolveFault.TheVariants as solve_fault
 
@@ -27,11 +25,6 @@ pub record AreTurnsMade (before : Tableau) (count : ℕ) (after : Tableau) (coun
   pub pivots : ℕ
   pub turns : Turns pivots before after
   pub counted : count_after ≡ raised count pivots
-
--- the end of the run that the outcome tells
-abbrev pub end_of : Outcome → End
-end_of (Least point value cert) = Optimal
-end_of (Nothing cert) = Empty
 
 -- the problem's run ends with the outcome's end, and what the outcome says is so; or a pivot leaves the range; or no memory is told
 abbrev pub IsSolved : ProblemData → ℕ → Result Outcome SolveFault → ℕ → Type 0

@@ -92,8 +92,7 @@ fn quantity_row<'a>(grid: &'a Grid, columns: &[usize], row: usize) -> &'a [Numbe
     ensures width { length result.now ≡ length columns.now + 2 }
     ensures value { row_in result.now ≡ row_of (tableau_in grid.now columns.now) row }
 {
-    prove!(row < grid.count());
-    grid.row(row + 1)
+    grid.quantity(row)
 }
 
 // A row's number in a column.

@@ -3,7 +3,7 @@
 ghost use Rattle.frac128.specs.Frac.{IsReduced};
 ghost use Rattle.frac128.specs.Problem.{ProblemData, IsProblem};
 ghost use Rattle.integers.specs.Fraction.{SameFraction, SameFractions};
-ghost use Rattle.lex_simplex.specs.Answer.{IsOutcome, is_least, spread as weights_with, row_entries, optimal_weights as weights_at_optimum, empty_weights as weights_at_empty};
+ghost use Rattle.lex_simplex.specs.Answer.{IsOutcome, end_of, spread as weights_with, row_entries, optimal_weights as weights_at_optimum, empty_weights as weights_at_empty};
 ghost use Rattle.lex_simplex.specs.Cells.{AreCells, row_in, tableau_in};
 ghost use Rattle.lex_simplex.specs.Equations.{IsTableauOf};
 ghost use Rattle.lex_simplex.specs.Pivot.{IsLeaving};
@@ -11,10 +11,11 @@ ghost use Rattle.lex_simplex.specs.State.{HasProblem};
 ghost use Rattle.lex_simplex.specs.Tableau.{value_of};
 ghost use Rattle.lex_simplex.specs.Turn.{turn, ended};
 ghost use Rattle.lex_simplex.specs.declared.end.End.TheVariants.{Optimal, Empty};
-ghost use Rattle.std.specs.Prelude.{◌≡◌, ◌<◌, ◌≤◌, ◌+◌, true, false, length, map, take, drop, get_or, set, replicate, pos, neg_ℤ, ◌<ℤ◌, All, IfOk};
+ghost use Rattle.std.specs.Prelude.{◌≡◌, ◌<◌, ◌≤◌, ◌+◌, length, map, take, drop, get_or, set, replicate, pos, neg_ℤ, ◌<ℤ◌, All, IfOk};
 
 use crate::grid::Grid;
 use crate::outcome::Outcome;
+use crate::start::push_zeros;
 use frac128::problem::Cert;
 use frac128::{Frac, List, NoMemory, Number};
 use std::alloc::Global;
@@ -29,7 +30,7 @@ pub(crate) fn optimal_outcome(
     requires cells { AreCells columns.now grid.now }
     requires tableau { HasProblem (tableau_in grid.now columns.now) }
     ensures outcome { (p : ProblemData) → IsProblem p → IsTableauOf p (tableau_in grid.now columns.now) → turn (tableau_in grid.now columns.now) ≡ ended (Ok Optimal) → IfOk result (IsOutcome p) }
-    ensures least { IfOk result (λ outcome. is_least outcome ≡ true) }
+    ensures end { IfOk result (λ outcome. end_of outcome ≡ Optimal) }
 {
     let weights = optimal_weights(alloc, grid, columns)?;
     let den = grid.row(0)[0];
@@ -50,7 +51,7 @@ pub(crate) fn empty_outcome(
     requires tableau { HasProblem (tableau_in grid.now columns.now) }
     requires row { IsLeaving (tableau_in grid.now columns.now) row }
     ensures outcome { (p : ProblemData) → IsProblem p → IsTableauOf p (tableau_in grid.now columns.now) → turn (tableau_in grid.now columns.now) ≡ ended (Ok Empty) → IfOk result (IsOutcome p) }
-    ensures least { IfOk result (λ outcome. is_least outcome ≡ false) }
+    ensures end { IfOk result (λ outcome. end_of outcome ≡ Empty) }
 {
     let weights = empty_weights(alloc, grid, columns, row)?;
     let cert = certificate(alloc, Number::ONE, weights.as_slice(), columns.len())?;
@@ -132,13 +133,12 @@ fn weigh_row(weights: &mut [Number], columns: &[usize], cells: &[Number], row: u
     weights[row] = cells[0];
 }
 
+// So many zeros.
 fn zeros(alloc: Global, count: usize) -> Result<Vec<Number>, NoMemory>
     ensures { IfOk result (λ v. v.items ≡ replicate count (pos 0)) }
 {
     let mut numbers = Vec::new(alloc);
-    for _ in 0..count {
-        numbers.push(Number::ZERO)?;
-    }
+    push_zeros(&mut numbers, count)?;
     Ok(numbers)
 }
 

@@ -1,9 +1,9 @@
 //! A table of a problem: a tableau in whole numbers that turns work on in place.
 
 ghost use Rattle.frac128.specs.Problem.{ProblemData, IsProblem};
-ghost use Rattle.lex_simplex.specs.Answer.{IsOutcome};
+ghost use Rattle.lex_simplex.specs.Answer.{IsOutcome, end_of};
 ghost use Rattle.lex_simplex.specs.Equations.{IsTableauOf};
-ghost use Rattle.lex_simplex.specs.Run.{IsRunMade, end_of};
+ghost use Rattle.lex_simplex.specs.Run.{IsRunMade};
 ghost use Rattle.lex_simplex.specs.Tableau.{start};
 ghost use Rattle.std.specs.Prelude.{◌≡◌, Result as Ended, Ok as EndOk, Some as HasEnded, None as NoEnd, IfOk};
 
