@@ -116,6 +116,11 @@ impl Number {
         requires { pos 0 <ℤ divisor }
         ensures { result ≡ int_div self divisor }
     {
+        if let (Ok(number), Ok(by)) = (i64::try_from(self.value), i64::try_from(divisor.value)) {
+            return Number {
+                value: i128::from(number / by),
+            };
+        }
         Number {
             value: self.value / divisor.value,
         }

@@ -2,7 +2,7 @@
 use Rattle.std.specs.List.Sorted.{IsStrictlyIncreasing}
 use Rattle.std.proofs.lemmas.List.Elements.{All-nil, All-cons}
 use Rattle.std.proofs.lemmas.List.Kept.{AllPairs-cons}
-use Rattle.std.proofs.Common.{◌≡◌, ◌≢◌, ℕ, zero, suc, ◌+◌, ◌<◌, ◌≤◌, length, get_or, List, [], ◌∷◌, All, AllPairs, Result, refl, sym, ap, ap₂, subst, zero-add, suc-add, ◌∙◌, arith}
+use Rattle.std.proofs.Common.{◌≡◌, ◌≢◌, ℕ, zero, suc, ◌<◌, length, List, [], ◌∷◌, All, AllPairs, Result, refl, sym, ap, ap₂, subst, ◌∙◌, arith}
 use Rattle.frac128.specs.Problem.{ProblemData, IsProblem}
 use Rattle.integers.specs.Counting.{choose}
 use Rattle.integers.specs.Lexicographic.{LexLess}
@@ -11,9 +11,8 @@ use Rattle.integers.proofs.Counting.{distinct_choices_at_most}
 use Rattle.lex_simplex.specs.Bound.{choices_of, turns_within, turns_to_go}
 use Rattle.lex_simplex.specs.Columns.{column_set}
 use Rattle.lex_simplex.specs.Equations.{IsTableauOf}
-use Rattle.lex_simplex.specs.Pivot.{IsLeaving, IsEntering}
 use Rattle.lex_simplex.specs.Tableau.{Tableau, start, values}
-use Rattle.lex_simplex.specs.Turn.{turn, next, Turn, ended, pivoted, Turns, IsRunFrom, IsRun}
+use Rattle.lex_simplex.specs.Turn.{turn, next, ended, Turns, IsRunFrom, IsRun}
 use Rattle.lex_simplex.specs.declared.end.End.{End}
 use Rattle.lex_simplex.specs.declared.end.PivotFault.{PivotFault}
 use Rattle.lex_simplex.proofs.ColumnLemmas.{column_set_is_choice, same_columns_same_values}
