@@ -1,14 +1,15 @@
 -- Combinations of a problem's rows, for code that makes them row by row and compares them place by place.
 use lib.IntN.{+ℤ_idl}
 use lib.ListN.{length-replicate}
-use Rattle.std.proofs.Common.{◌≡◌, ℕ, zero, suc, ◌+◌, take, ◌<◌, ◌≤◌, length, get_or, replicate, List, [], ◌∷◌, ◌++◌, ℤ, pos, ◌+ℤ◌, ◌*ℤ◌, ◌≤ℤ◌, refl, sym, ap, subst, ◌∙◌, arith}
+use Rattle.std.proofs.Common.{◌≡◌, ℕ, ◌+◌, map, take, ◌<◌, length, get_or, replicate, List, [], ◌∷◌, ◌++◌, ℤ, pos, ◌+ℤ◌, ◌*ℤ◌, ◌≤ℤ◌, refl, sym, ap, subst, ◌∙◌, arith}
 use Rattle.std.specs.Prelude.{All}
 use Rattle.std.proofs.lemmas.List.{take_more}
 use Rattle.std.proofs.lemmas.List.Elements.{All-nil, All-cons, All-head, All-tail, All-get_or}
 use Rattle.integers.specs.Vector.{dot, scale, add, weighted_sum, column_of, AreAtMost}
 use Rattle.integers.proofs.Laws.{lin}
-use Rattle.integers.proofs.VectorLaws.{length-scale, length-add, get_or-scale, get_or-add, get_or-weighted_sum, add-nil, add_assoc}
-use Rattle.integers.proofs.VectorOrder.{AreAtMost-at}
+use Rattle.integers.proofs.VectorLaws.{length-scale, length-add, get_or-scale, get_or-add, get_or-weighted_sum, add-nil, add_assoc, length-weighted_sum}
+use Rattle.integers.proofs.VectorOrder.{AreAtMost-at, AreAtMost-from_places}
+use Rattle.integers.proofs.Zeros.{get_or-zeros}
 use Rattle.frac128.specs.Problem.{ProblemData, IsRow, IsProblem, row_at, multipliers, combination}
 use Rattle.frac128.specs.declared.problem.Row.{Row}
 use Rattle.frac128.proofs.ProblemLaws.{coefs_on}
@@ -39,11 +40,10 @@ bound-take_more p on i d h = ap (λ (l : List (ℕ × ℤ)). (combination p l).b
 
 -- ---- place by place
 
--- zeros are 0 at each place
-pub get_or-zeros : (n j : ℕ) → get_or (replicate n (pos 0)) j (pos 0) ≡ pos 0
-get_or-zeros zero j = refl
-get_or-zeros (suc n) zero = refl
-get_or-zeros (suc n) (suc j) = get_or-zeros n j
+-- the numbers at a place of each row
+pub column_of-map : (j : ℕ) (rows : List Row) → column_of j (map (λ (r : Row). r.coefs) rows) ≡ map (λ (r : Row). get_or r.coefs j (pos 0)) rows
+column_of-map j [] = refl
+column_of-map j (r ∷ rows) = ap (λ zs. get_or r.coefs j (pos 0) ∷ zs) (column_of-map j rows)
 
 -- a coefficient is the multipliers' product with a column
 pub get_or-combination : (p : ProblemData) (on : List (ℕ × ℤ)) (j : ℕ) → get_or (combination p on).coefs j (pos 0) ≡ dot (multipliers on) (column_of j (coefs_on p.rows on))
@@ -58,27 +58,11 @@ coefs_on-lengths p ok (e ∷ on) below =
     let fits = All-get_or (IsRow p.vars) p.rows e.0 (record { coefs = []; bound = pos 0 }) (All-head (λ (e : ℕ × ℤ). e.0 < length p.rows) e on below) ok.rows_fit in
     All-cons (λ (row : List ℤ). length row ≡ p.vars) (row_at p.rows e.0).coefs (coefs_on p.rows on) fits.one_each (coefs_on-lengths p ok on (All-tail (λ (e : ℕ × ℤ). e.0 < length p.rows) e on below))
 
--- a sum of rows is no longer than they are
-pub length-weighted_sum : (n : ℕ) (ys : List ℤ) (rows : List (List ℤ)) → All (λ (row : List ℤ). length row ≡ n) rows → length (weighted_sum ys rows) ≤ n
-length-weighted_sum n [] rows h = omega arith
-length-weighted_sum n (y ∷ ys) [] h = omega arith
-length-weighted_sum n (y ∷ ys) (row ∷ rows) h =
-    let first = All-head (λ (row : List ℤ). length row ≡ n) row rows h in
-    let rest = length-weighted_sum n ys rows (All-tail (λ (row : List ℤ). length row ≡ n) row rows h) in
-    omega (arith, length-add (scale y row) (weighted_sum ys rows), length-scale y row)
-
 -- a combination has one coefficient for each variable
 pub length-combination : (p : ProblemData) → IsProblem p → (on : List (ℕ × ℤ)) → All (λ (e : ℕ × ℤ). e.0 < length p.rows) on → length (combination p on).coefs ≡ p.vars
 length-combination p ok on below =
     let most = length-weighted_sum p.vars (multipliers on) (coefs_on p.rows on) (coefs_on-lengths p ok on below) in
     omega (arith, length-add (replicate p.vars (pos 0)) (weighted_sum (multipliers on) (coefs_on p.rows on)), length-replicate p.vars (pos 0))
-
--- lists of one length compare by the places that they have
-pub AreAtMost-from_places : (xs ys : List ℤ) → length xs ≡ length ys → ((j : ℕ) → j < length xs → get_or xs j (pos 0) ≤ℤ get_or ys j (pos 0)) → AreAtMost xs ys
-AreAtMost-from_places [] [] e h = tt
-AreAtMost-from_places [] (y ∷ ys) e h = absurd (omega arith)
-AreAtMost-from_places (x ∷ xs) [] e h = absurd (omega arith)
-AreAtMost-from_places (x ∷ xs) (y ∷ ys) e h = (h 0 (omega arith), AreAtMost-from_places xs ys (omega arith) (λ j below. h (suc j) (omega arith)))
 
 -- coefficients at most d times the costs, shown at each variable
 pub below_cost-from_places : (p : ProblemData) → IsProblem p → (on : List (ℕ × ℤ)) → All (λ (e : ℕ × ℤ). e.0 < length p.rows) on → (d : ℤ) → ((j : ℕ) → j < p.vars → get_or (combination p on).coefs j (pos 0) ≤ℤ (d *ℤ get_or p.cost j (pos 0))) → AreAtMost (combination p on).coefs (scale d p.cost)

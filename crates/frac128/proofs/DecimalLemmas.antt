@@ -1,29 +1,21 @@
 -- Decimal digits by division, and the nearest whole number.
-use Rattle.frac128.specs.Decimal.{IsNearest, IsDecimal, IsHalfUp, sign_text, padded_digits, pointed_text}
-use Rattle.integers.specs.Fraction.{Fraction}
-use Rattle.frac128.proofs.ReadingLemmas.{unsigned_abs-neg}
-use Rattle.integers.proofs.Ring.{neg, ◌⊖◌, ◌⊗◌, ◌≗◌, ring4}
-use Rattle.std.proofs.Common.{◌<ℤ◌, ◌≡◌, ℕ, zero, suc, ◌+◌, ◌-◌, ◌*◌, ◌^◌, ◌<◌, ◌≤◌, List, [], ◌∷◌, ◌++◌, length, refl, ap, subst, sym, ◌∙◌, arith, ℤ, pos, negsuc, neg_ℤ, ◌-ℤ◌, ◌*ℤ◌, unsigned_abs, Bool, true, false, ◌↔◌, append-nil, inl, inr, ◌⊎◌, replicate, ⊎_elim}
+use Rattle.std.proofs.Common.{◌<ℤ◌, ◌≡◌, ℕ, zero, suc, ◌+◌, ◌-◌, ◌*◌, ◌^◌, ◌<◌, ◌≤◌, List, [], ◌∷◌, ◌++◌, length, refl, ap, subst, sym, ◌∙◌, arith, ℤ, pos, negsuc, neg_ℤ, ◌-ℤ◌, ◌*ℤ◌, unsigned_abs, Bool, true, false, ◌↔◌, append-nil, replicate, ⊎_elim}
 use Rattle.std.proofs.Math.Nat.{mul-le-mul_left, mul-le-mul_right, pow-le-pow_right}
 use Rattle.std.proofs.lemmas.Fmt.{decimal_is_IsNumeral_wide, length-decimal-le_wide}
 use Rattle.std.proofs.lemmas.Grind.{pow_more}
-use Rattle.std.proofs.lemmas.Bool.{false≢true}
-use Rattle.std.specs.Fmt.{padded_integral, char_count, format_spec}
-use Rattle.integers.proofs.Divisibility.{pos-unsigned_abs}
+use Rattle.std.proofs.lemmas.Bool.{cases_lt, false≢true}
+use Rattle.std.specs.Fmt.{padded_integral, char_count, format_spec, decimal}
 use Rattle.std.proofs.lemmas.Int.{ints}
-use Rattle.std.specs.Fmt.{decimal}
 use Rattle.std.specs.Str.Parse.{AllDigits, digits_value}
-
--- one number is below another or not
-cases_below : (m n : ℕ) → (m < n) ⊎ (n ≤ m)
-cases_below zero zero = inr (omega arith)
-cases_below zero (suc n) = inl (omega arith)
-cases_below (suc m) zero = inr (omega arith)
-cases_below (suc m) (suc n) = ⊎_elim (λ l. inl (omega arith)) (λ l. inr (omega arith)) (cases_below m n)
+use Rattle.integers.specs.Fraction.{Fraction}
+use Rattle.integers.proofs.Ring.{neg, ◌⊖◌, ◌⊗◌, ◌≗◌, ring4}
+use Rattle.integers.proofs.Divisibility.{pos-unsigned_abs, unsigned_abs-neg}
+use Rattle.integers.proofs.Order.{le_of_lt}
+use Rattle.frac128.specs.Decimal.{IsNearest, IsDecimal, IsHalfUp, sign_text, padded_digits, pointed_text}
 
 -- a quotient is below b where b times the remainder covers it
 pub below_from_products : (a b d r : ℕ) → 0 < b → a * d ≤ b * r → r < d → a < b
-below_from_products a b d r some h l = ⊎_elim (λ below. below) (λ above. absurd (omega (arith, mul-le-mul_right d above, mul-le-mul_left b l))) (cases_below a b)
+below_from_products a b d r some h l = ⊎_elim (λ below. below) (λ above. absurd (omega (arith, mul-le-mul_right d above, mul-le-mul_left b l))) (cases_lt a b)
 
 -- a power of ten more
 pub ten_more : (i : ℕ) → 10 ^ (i + 1) ≡ 10 * 10 ^ i
@@ -57,7 +49,7 @@ module _ (s num den whole rest part left : ℕ) (n : num ≡ whole * den + rest)
 
 -- the distance of two numbers
 dist_below : (a b k : ℕ) → a + k ≡ b → unsigned_abs (pos a -ℤ pos b) ≡ k
-dist_below a b k e = let is : pos a -ℤ pos b ≡ neg_ℤ (pos k) = omega (arith, ints) in ap unsigned_abs is ∙ unsigned_abs-neg k
+dist_below a b k e = let is : pos a -ℤ pos b ≡ neg_ℤ (pos k) = omega (arith, ints) in ap unsigned_abs is ∙ unsigned_abs-neg (pos k)
 
 dist_above : (a b k : ℕ) → b + k ≡ a → unsigned_abs (pos a -ℤ pos b) ≡ k
 dist_above a b k e = let is : pos a -ℤ pos b ≡ pos k = omega (arith, ints) in ap unsigned_abs is
@@ -71,12 +63,7 @@ near_from_half_up : (a b d : ℕ) → 2 * b ≤ 2 * a + d → 2 * a < 2 * b + d 
 near_from_half_up a b d low high = ⊎_elim
     (λ l. let e = dist_above a b (a - b) (omega arith) in record { near = omega (arith, e); away = λ h. omega (arith, e) })
     (λ l. let e = dist_below a b (b - a) (omega arith) in record { near = omega (arith, e); away = λ h. l })
-    (cases_below b a)
-
--- the size of a number with the other sign
-abs-neg : (z : ℤ) → unsigned_abs (neg_ℤ z) ≡ unsigned_abs z
-abs-neg (pos n) = unsigned_abs-neg n
-abs-neg (negsuc n) = refl
+    (cases_lt b a)
 
 -- the nearest number by sizes
 nearest_from : (s n d m : ℕ) (f : Fraction) (k : ℤ) → IsHalfUp (s * n) d m → unsigned_abs f.num ≡ n → unsigned_abs f.den ≡ d → unsigned_abs k ≡ m → unsigned_abs (pos s *ℤ f.num -ℤ k *ℤ f.den) ≡ unsigned_abs (pos (s * n) -ℤ pos (m * d)) → IsNearest s f k
@@ -92,8 +79,8 @@ pub nearest_plain : (s n d m : ℕ) → IsHalfUp (s * n) d m → IsNearest s (re
 nearest_plain s n d m half = nearest_from s n d m _ (pos m) half refl refl refl refl
 
 pub nearest_negative : (s n d m : ℕ) → IsHalfUp (s * n) d m → IsNearest s (record { num = neg_ℤ (pos n); den = pos d }) (neg_ℤ (pos m))
-nearest_negative s n d m half = nearest_from s n d m _ (neg_ℤ (pos m)) half (unsigned_abs-neg n) refl (unsigned_abs-neg m)
-    (ap unsigned_abs (ring4 (λ s n m d. s ⊗ neg n ⊖ neg m ⊗ d ≗ neg (s ⊗ n ⊖ m ⊗ d)) refl (pos s) (pos n) (pos m) (pos d)) ∙ abs-neg (pos s *ℤ pos n -ℤ pos m *ℤ pos d))
+nearest_negative s n d m half = nearest_from s n d m _ (neg_ℤ (pos m)) half (unsigned_abs-neg (pos n)) refl (unsigned_abs-neg (pos m))
+    (ap unsigned_abs (ring4 (λ s n m d. s ⊗ neg n ⊖ neg m ⊗ d ≗ neg (s ⊗ n ⊖ m ⊗ d)) refl (pos s) (pos n) (pos m) (pos d)) ∙ unsigned_abs-neg (pos s *ℤ pos n -ℤ pos m *ℤ pos d))
 
 -- zeros before digits
 zeros_value : (count : ℕ) (ds : List ℕ) → digits_value 10 (replicate count 48 ++ ds) ≡ digits_value 10 ds
@@ -153,7 +140,7 @@ module _ (d places whole part : ℕ) (text : List ℕ) (some : 1 ≤ places) (fe
 
 pub decimal_is : (f : Fraction) (places whole part : ℕ) (minus : Bool) (text : List ℕ) → 1 ≤ places → places ≤ 18 → part < 10 ^ places → pos 0 <ℤ f.den → IsHalfUp (10 ^ places * unsigned_abs f.num) (unsigned_abs f.den) (whole * 10 ^ places + part) → minus ≡ true ↔ ((f.num <ℤ pos 0) × (0 < whole + part)) → text ≡ pointed_text minus whole part places → IsDecimal f places text
 decimal_is f places whole part minus text some few below positive half sign e =
-    subst (λ z. IsDecimal (record { num = f.num; den = z }) places text) (pos-unsigned_abs f.den positive) (either (unsigned_abs f.den) places whole part text some few below f.num minus half sign e)
+    subst (λ z. IsDecimal (record { num = f.num; den = z }) places text) (pos-unsigned_abs f.den (le_of_lt (pos 0) f.den positive)) (either (unsigned_abs f.den) places whole part text some few below f.num minus half sign e)
 
 -- what `{:0width$}` writes
 module _ (width : ℕ) (numeral : List ℕ) where

@@ -1,32 +1,15 @@
 -- Sums, differences and products of fractions a/b and c/d by their divided parts.
 use Prim.Native.Nat.{◌∣◌}
-use lib.IntN.{*ℤ_comm}
-use Rattle.std.proofs.Math.Nat.{dvd-mul_right}
 use Rattle.std.proofs.lemmas.Int.{unsigned_abs-mul}
 use Rattle.std.proofs.lemmas.Nat.Gcd.{dvd_trans, same_from_IsGcd}
-use Rattle.std.proofs.Common.{◌≡◌, ◌↔◌, ℕ, zero, suc, ◌*◌, ℤ, pos, negsuc, neg_ℤ, ◌+ℤ◌, ◌-ℤ◌, ◌*ℤ◌, ◌<ℤ◌, int_div, unsigned_abs, [], ◌∷◌, refl, sym, ap, subst, subst₂, ◌∙◌}
+use Rattle.std.proofs.Common.{◌≡◌, ◌↔◌, ℕ, ◌*◌, ℤ, pos, negsuc, neg_ℤ, ◌+ℤ◌, ◌-ℤ◌, ◌*ℤ◌, ◌<ℤ◌, int_div, unsigned_abs, [], ◌∷◌, refl, sym, subst, subst₂}
 use Rattle.integers.specs.Divisibility.{AreCoprime, IsLowest, IsGcdOf}
-use Rattle.integers.proofs.Divisibility.{int_div-mul_cancel}
+use Rattle.integers.proofs.Divisibility.{unsigned_abs-neg, quotient_positive, quotient_divides}
 use Rattle.integers.proofs.Gcd.{AreCoprime_comm, dvd_of_coprime}
-use Rattle.integers.proofs.Order.{divided_pos, le_of_lt, mul_pos}
+use Rattle.integers.proofs.Order.{le_of_lt, mul_pos}
 use Rattle.integers.proofs.Ring.{con, neg, ◌⊕◌, ◌⊖◌, ◌⊗◌, ◌≗◌, ◌✶◌, ◌⇐◌, combine6, combine9, combine10}
 use Rattle.frac128.specs.Frac.{turned_over}
 use Rattle.frac128.proofs.Numbers.{lowest_parts}
-
--- ---- numbers divided by a divisor
-
--- the quotient times the divisor
-pub quotient_whole : (b z : ℤ) → pos 0 <ℤ z → unsigned_abs z ∣ unsigned_abs b → b ≡ int_div b z *ℤ z
-quotient_whole b (pos n) p h = sym (*ℤ_comm (int_div b (pos n)) (pos n) ∙ int_div-mul_cancel b n h)
-quotient_whole b (negsuc n) p h = absurd p.lt
-
--- the quotient of a positive number
-pub quotient_positive : (b z : ℤ) → pos 0 <ℤ b → pos 0 <ℤ z → unsigned_abs z ∣ unsigned_abs b → pos 0 <ℤ int_div b z
-quotient_positive b z pb p h = (divided_pos b (int_div b z) z p (quotient_whole b z p h)).0 pb
-
--- the quotient divides too
-quotient_divides : (b z : ℤ) → pos 0 <ℤ z → unsigned_abs z ∣ unsigned_abs b → unsigned_abs (int_div b z) ∣ unsigned_abs b
-quotient_divides b z p h = subst (λ n. unsigned_abs (int_div b z) ∣ n) (sym (unsigned_abs-mul (int_div b z) z) ∙ ap unsigned_abs (sym (quotient_whole b z p h))) (dvd-mul_right (unsigned_abs (int_div b z)) (unsigned_abs z))
 
 -- ---- the values
 
@@ -89,12 +72,6 @@ any_divisors P a b c d z w pz pw hz hw = (
 )
 
 -- ---- turned over
-
--- the sign does not show in the absolute value
-unsigned_abs-neg : (a : ℤ) → unsigned_abs (neg_ℤ a) ≡ unsigned_abs a
-unsigned_abs-neg (pos zero) = refl
-unsigned_abs-neg (pos (suc n)) = refl
-unsigned_abs-neg (negsuc n) = refl
 
 -- lowest terms turned over
 pub IsLowest-comm : (a b : ℤ) → IsLowest a b → IsLowest b a

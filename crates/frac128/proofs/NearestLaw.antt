@@ -1,12 +1,12 @@
 -- A fraction has one nearest whole number.
-use Rattle.frac128.specs.Decimal.{IsNearest}
-use Rattle.integers.proofs.Divisibility.{pos-unsigned_abs}
-use Rattle.integers.proofs.Laws.{lin}
-use Rattle.integers.proofs.Order.{cancel_eq, mul_le, lt_cases}
-use Rattle.integers.proofs.Ring.{con, neg, ◌⊕◌, ◌⊖◌, ◌⊗◌, ◌≗◌, ring2}
-use Rattle.integers.specs.Fraction.{Fraction}
 use Rattle.std.proofs.Common.{◌≡◌, ℕ, zero, suc, ◌+◌, ◌*◌, ◌<◌, ◌≤◌, refl, subst, ap, sym, ◌∙◌, arith, ℤ, pos, negsuc, neg_ℤ, ◌+ℤ◌, ◌-ℤ◌, ◌*ℤ◌, ◌<ℤ◌, ◌≤ℤ◌, unsigned_abs, ◌⊎◌, inl, inr}
 use Rattle.std.proofs.lemmas.Int.{ints, unsigned_abs-mul}
+use Rattle.integers.specs.Fraction.{Fraction}
+use Rattle.integers.proofs.Divisibility.{pos-unsigned_abs}
+use Rattle.integers.proofs.Laws.{lin}
+use Rattle.integers.proofs.Order.{cancel_eq, mul_le, lt_cases, le_of_lt}
+use Rattle.integers.proofs.Ring.{con, neg, ◌⊕◌, ◌⊖◌, ◌⊗◌, ◌≗◌, ring2}
+use Rattle.frac128.specs.Decimal.{IsNearest}
 
 -- a bound on twice a size, as two bounds
 twice_below : (z : ℤ) (d : ℕ) → 2 * unsigned_abs z ≤ d → ((z +ℤ z) ≤ℤ pos d) × (neg_ℤ (pos d) ≤ℤ (z +ℤ z))
@@ -84,6 +84,6 @@ one_over s num k l d some h j = elim (lt_cases k l) [
 
 pub one_nearest : (s : ℕ) (f : Fraction) (k l : ℤ) → pos 0 <ℤ f.den → IsNearest s f k → IsNearest s f l → k ≡ l
 one_nearest s f k l positive h j =
-    let e = sym (pos-unsigned_abs f.den positive) in
+    let e = sym (pos-unsigned_abs f.den (le_of_lt (pos 0) f.den positive)) in
     let At : ℤ → ℤ → Type 0 = λ z m. IsNearest s (record { num = f.num; den = z }) m in
     one_over s f.num k l (unsigned_abs f.den) (omega (arith, ints, e)) (subst (λ z. At z k) e h) (subst (λ z. At z l) e j)

@@ -1,12 +1,13 @@
 -- Steps of the arithmetic of numbers, over variables.
 use Rattle.std.specs.Int.{IsGcd}
-use Rattle.std.proofs.Math.Nat.{eq-zero-or-pos, le_of_dvd, pos_of_dvd_of_pos}
+use Rattle.std.proofs.Math.Nat.{eq-zero-or-pos, le_of_dvd}
 use Rattle.std.proofs.lemmas.Nat.Gcd.{IsGcd-from_zero, same_from_IsGcd}
-use Rattle.std.proofs.Common.{◌≡◌, ◌⊎◌, inl, inr, ℕ, ◌<◌, ℤ, pos, negsuc, ◌+ℤ◌, ◌-ℤ◌, ◌*ℤ◌, ◌≤ℤ◌, ◌<ℤ◌, int_div, unsigned_abs, [], ◌∷◌, refl, arith}
+use Rattle.std.proofs.Common.{◌≡◌, ◌⊎◌, inl, inr, ℕ, ◌<◌, ℤ, pos, negsuc, ◌+ℤ◌, ◌-ℤ◌, ◌*ℤ◌, ◌≤ℤ◌, ◌<ℤ◌, ◌↔◌, ◌^◌, neg_ℤ, int_div, unsigned_abs, [], ◌∷◌, refl, sym, subst, arith}
 use Rattle.integers.specs.Divisibility.{IsLowest, IsGcdOf}
-use Rattle.integers.proofs.Divisibility.{lowest_terms}
+use Rattle.integers.proofs.Divisibility.{lowest_terms, unsigned_abs-neg}
 use Rattle.integers.proofs.Laws.{lin}
 use Rattle.integers.proofs.Ring.{con, neg, ◌⊕◌, ◌⊖◌, ◌⊗◌, ◌≗◌, ◌✶◌, ◌⇐◌, combine6}
+use Rattle.frac128.specs.Range.{IsInRange}
 
 -- a quotient lowered by 1 with the rest raised by the divisor
 pub lowered : (a d q r x y : ℤ) → q *ℤ d +ℤ r ≡ a → x ≡ q -ℤ pos 1 → y ≡ r +ℤ d → a ≡ x *ℤ d +ℤ y
@@ -20,15 +21,6 @@ IsGcd-below a b g n p q h = cases (eq-zero-or-pos b)
     cases (inl e) = let same : g ≡ a = same_from_IsGcd a b g a h (IsGcd-from_zero a b e) in omega arith
     cases (inr s) = let least = le_of_dvd s h.1 in omega arith
 
--- a greatest common divisor with a positive number is positive
-pub divisor_positive : (a b z : ℤ) → pos 0 <ℤ b → IsGcdOf a b (unsigned_abs z) → pos 0 ≤ℤ z → pos 0 <ℤ z
-divisor_positive a b (pos n) p h s = let some : 0 < n = pos_of_dvd_of_pos h.1 (size_of b p) in omega (arith, lin)
-  where
-    size_of : (z : ℤ) → pos 0 <ℤ z → 0 < unsigned_abs z
-    size_of (pos n) q = omega (arith, lin)
-    size_of (negsuc n) q = absurd q.lt
-divisor_positive a b (negsuc n) p h s = absurd s.le
-
 -- both parts of a fraction divided by their greatest common divisor
 pub lowest_parts : (a b z : ℤ) → pos 0 <ℤ b → IsGcdOf a b (unsigned_abs z) → pos 0 ≤ℤ z → IsLowest (int_div a z) (int_div b z) × (pos 0 <ℤ int_div b z) × (a *ℤ int_div b z ≡ int_div a z *ℤ b)
 lowest_parts a b (pos n) p h s = lowest_terms a b n p h
@@ -37,3 +29,17 @@ lowest_parts a b (negsuc n) p h s = absurd s.le
 -- a natural number is not negative
 pub pos_nonneg : (n : ℕ) → pos 0 ≤ℤ pos n
 pos_nonneg n = omega (arith, lin)
+
+-- ---- the range
+
+-- 0 is in the range
+zero_in_range : IsInRange (pos 0)
+zero_in_range = omega arith
+
+-- a number that is 0 is in the range
+pub in_range-zero : (z : ℤ) → z ≡ pos 0 → IsInRange z
+in_range-zero z is = subst IsInRange (sym is) zero_in_range
+
+-- the range is the same on both sides of 0
+pub in_range-neg : (z : ℤ) → IsInRange (neg_ℤ z) ↔ IsInRange z
+in_range-neg z = (λ h. subst (λ n. n < 2 ^ 127) (unsigned_abs-neg z) h, λ h. subst (λ n. n < 2 ^ 127) (sym (unsigned_abs-neg z)) h)

@@ -1,4 +1,13 @@
 -- The printed text writes the fraction's own numbers, and so reads as the fraction.
+use Rattle.std.proofs.Common.{◌≡◌, ◌↔◌, ℕ, suc, ◌^◌, ◌<◌, ◌==◌, Bool, true, false, inl, inr, List, [], ◌∷◌, ◌++◌, Result, Ok, Err, refl, ap, subst, sym, ◌∙◌, arith, ℤ, pos, negsuc, ◌<ℤ◌, ◌*ℤ◌, unsigned_abs, if◌then◌else◌, append-nil}
+use Rattle.std.proofs.lemmas.Bool.Decides.{nat_tests}
+use Rattle.std.proofs.lemmas.Fmt.{decimal_is_IsNumeral_wide}
+use Rattle.std.proofs.lemmas.Int.{ints}
+use Rattle.std.specs.Fmt.{decimal, signed_decimal}
+use Rattle.std.specs.Result.{IfOk, IsErrOf}
+use Rattle.integers.specs.Fraction.{Fraction}
+use Rattle.integers.proofs.Order.{fraction_eq_eq, le_of_lt}
+use Rattle.integers.proofs.Divisibility.{same_parts, pos-unsigned_abs, unsigned_abs_pos}
 use Rattle.frac128.specs.Frac.{IsReduced}
 use Rattle.frac128.specs.Range.{IsInRange}
 use Rattle.frac128.specs.Text.{WritesUnsigned, Writes, WritesNone, IsTooWide, IsReading, frac_text}
@@ -6,15 +15,6 @@ use Rattle.frac128.specs.declared.reading.FracFault.{FracFault}
 use Rattle.frac128.specs.declared.reading.FracFault.TheVariants.{BadNumber, TooWide}
 use Rattle.frac128.proofs.TextLemmas.{one_reading}
 use Rattle.frac128.proofs.ReadingLemmas.{written_den_positive}
-use Rattle.integers.proofs.Order.{fraction_eq_eq}
-use Rattle.integers.proofs.Divisibility.{same_parts, pos-unsigned_abs}
-use Rattle.integers.specs.Fraction.{Fraction}
-use Rattle.std.proofs.Common.{◌≡◌, ◌↔◌, ℕ, suc, ◌^◌, ◌<◌, ◌==◌, Bool, true, false, inl, inr, List, [], ◌∷◌, ◌++◌, Result, Ok, Err, refl, ap, subst, sym, ◌∙◌, arith, ℤ, pos, negsuc, ◌<ℤ◌, ◌*ℤ◌, unsigned_abs, if◌then◌else◌, append-nil}
-use Rattle.std.proofs.lemmas.Bool.Decides.{nat_tests}
-use Rattle.std.proofs.lemmas.Fmt.{decimal_is_IsNumeral_wide}
-use Rattle.std.proofs.lemmas.Int.{ints}
-use Rattle.std.specs.Fmt.{decimal, signed_decimal}
-use Rattle.std.specs.Result.{IfOk, IsErrOf}
 
 -- what stands behind the numerator
 abbrev den_text : ℕ → Bool → List ℕ
@@ -35,17 +35,13 @@ writes_signed : (z : ℤ) (d : ℕ) (b : Bool) → unsigned_abs z < 10 ^ 64 → 
 writes_signed (pos n) d b p some q one = inl (record { size = n; unsigned = writes_sizes n d b p some q one; num_is = refl })
 writes_signed (negsuc n) d b p some q one = inr (record { rest = decimal (suc n) ++ den_text d b; size = suc n; parts = refl; unsigned = writes_sizes (suc n) d b p some q one; num_is = refl })
 
--- the size of a positive number
-abs_positive : (z : ℤ) → pos 0 <ℤ z → 0 < unsigned_abs z
-abs_positive z h = omega (arith, ints, pos-unsigned_abs z h)
-
 -- the fraction is what its text is read as
 pub reading_of_printed : (f : Fraction) → IsReduced f → IsInRange f.num → IsInRange f.den → IsReading (frac_text f) f
 reading_of_printed f low p q =
     let d = unsigned_abs f.den in
     let one : (d == 1) ≡ true → d ≡ 1 = grind (arith, nat_tests) in
-    let written = writes_signed f.num d (d == 1) (omega arith) (abs_positive f.den low.0) (omega arith) one in
-    (low, (f.num, (d, written, (p, q, ap (λ z. f.num *ℤ z) (pos-unsigned_abs f.den low.0)))))
+    let written = writes_signed f.num d (d == 1) (omega arith) (unsigned_abs_pos f.den low.0) (omega arith) one in
+    (low, (f.num, (d, written, (p, q, ap (λ z. f.num *ℤ z) (pos-unsigned_abs f.den (le_of_lt (pos 0) f.den low.0))))))
 
 -- with the denominator 1, the text is the numerator
 pub frac_text_whole : (f : Fraction) → f.den ≡ pos 1 → frac_text f ≡ signed_decimal f.num

@@ -1,19 +1,17 @@
 -- What certificates of a linear problem say of its points, and that its least point is one.
 use lib.IntN.{*ℤ_comm}
-use Rattle.std.proofs.Common.{◌≡◌, ◌⊎◌, inl, inr, ℕ, zero, suc, ◌<◌, length, map, get_or, replicate, List, [], ◌∷◌, ℤ, pos, ◌*ℤ◌, ◌≤ℤ◌, ◌<ℤ◌, refl, sym, ap, subst, ◌∙◌, arith}
+use Rattle.std.proofs.Common.{◌≡◌, ◌⊎◌, inl, inr, ℕ, ◌<◌, length, map, get_or, replicate, List, [], ◌∷◌, ℤ, pos, ◌*ℤ◌, ◌≤ℤ◌, ◌<ℤ◌, refl, sym, ap, subst, ◌∙◌}
 use Rattle.std.specs.Prelude.{All}
-use Rattle.std.specs.Int.Signed.{≤ℤ_refl}
 use Rattle.std.proofs.lemmas.List.Elements.{All-nil, All-cons, All-head, All-tail, All-get_or}
 use Rattle.integers.specs.Fraction.{Fraction, FractionLess, over, SameFractions}
 use Rattle.integers.specs.Lexicographic.{LexLess}
 use Rattle.integers.specs.Vector.{dot, scale, add, weighted_sum, dot_each, AreNonNegative, AreAtMost}
 use Rattle.integers.proofs.Fractions.{length-over, FractionAtMost-not_below, AreFractions-over, SameFractions-sym, SameFractions-length, SameFractions-over}
-use Rattle.integers.proofs.Laws.{lin}
 use Rattle.integers.proofs.LexOrder.{LexLess-cases, LexLess-same_right}
 use Rattle.integers.proofs.Order.{cancel_le, fraction_eq_le, le_of_lt, mul_nonneg, nonneg_of_mul}
 use Rattle.integers.proofs.Ring.{con, ◌⊗◌, ◌≗◌, ◌≼◌, ◌✶◌, ◌⇐◌, combine5}
 use Rattle.integers.proofs.Vector.{dot-scale_right}
-use Rattle.integers.proofs.VectorOrder.{AreAtMost-refl, AreAtMost-trans, weak_duality_over, farkas}
+use Rattle.integers.proofs.VectorOrder.{AreAtMost-trans, weak_duality_over, farkas, AreAtMost-add_zeros, AreAtMost-nil}
 use Rattle.frac128.specs.Problem.{ProblemData, IsMetBy, IsFeasible, IsInfeasible, cost_at, IsLowerBound, cost_and_numbers, IsLeast, row_at, multipliers, rows_on, IsSpanCertificate, IsFarkasCertificate}
 use Rattle.frac128.specs.declared.problem.Cert.{Cert}
 use Rattle.frac128.specs.declared.problem.Row.{Row}
@@ -27,22 +25,6 @@ coefs_on rows on = map (λ (r : Row). r.coefs) (rows_on rows on)
 -- the bounds of the rows at the positions
 abbrev pub bounds_on : List Row → List (ℕ × ℤ) → List ℤ
 bounds_on rows on = map (λ (r : Row). r.bound) (rows_on rows on)
-
--- the empty list is at most zeros
-pub AreAtMost-zeros : (n : ℕ) → AreAtMost [] (replicate n (pos 0))
-AreAtMost-zeros zero = tt
-AreAtMost-zeros (suc n) = (≤ℤ_refl (pos 0), AreAtMost-zeros n)
-
--- zeros added to a list leave it at least as it was
-pub AreAtMost-add_zeros : (n : ℕ) (xs : List ℤ) → AreAtMost xs (add (replicate n (pos 0)) xs)
-AreAtMost-add_zeros zero xs = AreAtMost-refl xs
-AreAtMost-add_zeros (suc n) [] = (≤ℤ_refl (pos 0), AreAtMost-zeros n)
-AreAtMost-add_zeros (suc n) (x ∷ xs) = (omega (arith, lin), AreAtMost-add_zeros n xs)
-
--- numbers of at most 0 are at most the empty list
-pub AreAtMost-nil : (xs : List ℤ) → All (λ c. c ≤ℤ pos 0) xs → AreAtMost xs []
-AreAtMost-nil [] h = tt
-AreAtMost-nil (x ∷ xs) h = (All-head (λ c. c ≤ℤ pos 0) x xs h, AreAtMost-nil xs (All-tail (λ c. c ≤ℤ pos 0) x xs h))
 
 -- the multipliers of entries are not negative
 pub multipliers_nonneg : (on : List (ℕ × ℤ)) → All (λ (e : ℕ × ℤ). pos 0 ≤ℤ e.1) on → AreNonNegative (multipliers on)

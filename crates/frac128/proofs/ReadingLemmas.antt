@@ -1,12 +1,5 @@
 -- From the parts of a text to the two numbers that it writes.
-use Rattle.frac128.specs.Range.{IsInRange}
-use Rattle.frac128.specs.Text.{WritesUnsigned, Writes, WritesNone, IsTooWide, IsReading}
-use Rattle.frac128.specs.Reading.{IsNumber, IsNumberFault, IsQuotient, IsQuotientFault, WritesSizes, IsSizesFault, WritesSigned, IsReadingFault}
-use Rattle.frac128.specs.declared.reading.FracFault.{FracFault}
-use Rattle.frac128.specs.declared.reading.FracFault.TheVariants.{BadNumber, TooWide}
-use Rattle.frac128.proofs.TextLemmas.{digits_without_slash, quotient_at_slash, first_digit, one_reading}
-use Rattle.std.proofs.Common.{◌≡◌, ◌≢◌, ℕ, ◌-◌, suc, Result, Ok, Err, ◌+◌, ◌^◌, zero, ◌<◌, inl, inr, List, [], ◌∷◌, ◌++◌, None, Some, length, get_or, take, drop, refl, ap, subst, sym, ◌∙◌, arith, ℤ, pos, ◌==◌, neg_ℤ, ◌↔◌, unsigned_abs}
-use Rattle.integers.specs.Fraction.{Fraction}
+use Rattle.std.proofs.Common.{◌≡◌, ◌≢◌, ℕ, ◌-◌, suc, Result, Ok, Err, ◌+◌, ◌^◌, ◌<◌, inl, inr, List, [], ◌∷◌, ◌++◌, None, Some, length, get_or, take, drop, refl, ap, subst, sym, ◌∙◌, arith, ℤ, pos, ◌==◌, neg_ℤ, ◌↔◌}
 use Rattle.std.proofs.Math.IntN.{neg_ℤ-neg_ℤ}
 use Rattle.std.proofs.Math.Seq.{drop-cons}
 use Rattle.std.proofs.lemmas.List.{take-append-drop}
@@ -17,6 +10,14 @@ use Rattle.std.proofs.lemmas.List.Quantifiers.{position-Some}
 use Rattle.std.proofs.lemmas.Bool.Decides.{nat_tests}
 use Rattle.std.specs.List.{position, position_or_len}
 use Rattle.std.specs.Str.Parse.{IsNumeral, digits_value}
+use Rattle.integers.specs.Fraction.{Fraction}
+use Rattle.integers.proofs.Divisibility.{unsigned_abs-neg}
+use Rattle.frac128.specs.Range.{IsInRange}
+use Rattle.frac128.specs.Text.{WritesUnsigned, Writes, WritesNone, IsTooWide, IsReading}
+use Rattle.frac128.specs.Reading.{IsNumber, IsNumberFault, IsQuotient, IsQuotientFault, WritesSizes, IsSizesFault, WritesSigned, IsReadingFault}
+use Rattle.frac128.specs.declared.reading.FracFault.{FracFault}
+use Rattle.frac128.specs.declared.reading.FracFault.TheVariants.{BadNumber, TooWide}
+use Rattle.frac128.proofs.TextLemmas.{digits_without_slash, quotient_at_slash, first_digit, one_reading}
 
 -- no byte is `/`
 pub no_slash : (text : List ℕ) → position (λ byte. byte == 47) text ≡ None → (k : ℕ) → k < length text → get_or text k 0 ≢ 47
@@ -100,11 +101,6 @@ reads_plain bytes (Ok sizes) plain h = record {
 reads_plain bytes (Err BadNumber) plain h = λ num den w. elim w [ inl a ↦ h a.size den a.unsigned | inr b ↦ plain (omega (arith, ap length b.parts)) (ap (λ t. get_or t 0 0) b.parts) ]
 reads_plain bytes (Err TooWide) plain h = (pos h.num_size, (h.den_size, inl (record { size = h.num_size; unsigned = h.unsigned; num_is = refl }), h.wide))
 
--- the size of a negative number
-pub unsigned_abs-neg : (n : ℕ) → unsigned_abs (neg_ℤ (pos n)) ≡ n
-unsigned_abs-neg zero = refl
-unsigned_abs-neg (suc n) = refl
-
 neg-neg : (z w : ℤ) → neg_ℤ z ≡ w → z ≡ neg_ℤ w
 neg-neg z w e = sym (neg_ℤ-neg_ℤ z) ∙ ap neg_ℤ e
 
@@ -117,14 +113,14 @@ reads_negative rest (Ok sizes) h =
       written = inr (record { rest = rest; size = h.num_size; parts = refl; unsigned = h.unsigned; num_is = is });
       den_is = h.den_is;
       positive = den_positive rest h.num_size h.den_size h.unsigned;
-      num_fits = subst IsInRange (sym is) (subst (λ n. n < 2 ^ 127) (sym (unsigned_abs-neg h.num_size)) h.num_fits);
+      num_fits = subst IsInRange (sym is) (subst (λ n. n < 2 ^ 127) (sym (unsigned_abs-neg (pos h.num_size))) h.num_fits);
       den_fits = h.den_fits;
     }
 reads_negative rest (Err BadNumber) h = λ num den w. elim w [
   | inl a ↦ (first_digit (45 ∷ rest) a.size den a.unsigned).1 refl
   | inr b ↦ h b.size den (subst (λ t. WritesUnsigned t b.size den) (sym (ap (drop 1) b.parts)) b.unsigned)
 ]
-reads_negative rest (Err TooWide) h = (neg_ℤ (pos h.num_size), (h.den_size, inr (record { rest = rest; size = h.num_size; parts = refl; unsigned = h.unsigned; num_is = refl }), λ w. h.wide (subst (λ n. n < 2 ^ 127) (unsigned_abs-neg h.num_size) w.0, w.1)))
+reads_negative rest (Err TooWide) h = (neg_ℤ (pos h.num_size), (h.den_size, inr (record { rest = rest; size = h.num_size; parts = refl; unsigned = h.unsigned; num_is = refl }), λ w. h.wide (subst (λ n. n < 2 ^ 127) (unsigned_abs-neg (pos h.num_size)) w.0, w.1)))
 
 -- a text that begins with `-`
 pub reads_minus : (bytes rest : List ℕ) (r : Result (ℤ × ℤ) FracFault) → 0 < length bytes → get_or bytes 0 0 ≡ 45 → rest ≡ drop 1 bytes → MatchResult r (λ sizes. WritesSizes rest (neg_ℤ sizes.0) sizes.1) (λ fault. IsSizesFault rest fault) → MatchResult r (λ sizes. WritesSigned bytes sizes.0 sizes.1) (λ fault. IsReadingFault bytes fault)

@@ -5,6 +5,7 @@ use Rattle.std.proofs.lemmas.List.Elements.{All-nil, All-cons, All-head, All-tai
 use Rattle.std.proofs.lemmas.List.Kept.{AllPairs-cons, AllPairs-from_increasing}
 use Rattle.std.proofs.Common.{◌≡◌, ◌≢◌, ◌⊎◌, inl, inr, ◌↔◌, ℕ, zero, suc, ◌+◌, ◌<◌, ◌≤◌, length, get_or, List, [], ◌∷◌, ◌++◌, map, All, AllPairs, Contains, refl, sym, ap, ap₂, subst, ◌∙◌, arith, length-append, eq-or-lt_of_le, zero-le}
 use Rattle.integers.specs.Counting.{choices_from, choices, choose}
+use Rattle.integers.proofs.Lists.{AllPairs-head, AllPairs-tail}
 
 -- ---- membership by recursion
 
@@ -38,7 +39,7 @@ IsApart {A} (x ∷ xs) = ((z : A) → IsIn z xs → x ≢ z) × IsApart xs
 IsApart-from_AllPairs : {A : Type 0} (xs : List A) → AllPairs (λ x y. x ≢ y) xs → IsApart xs
 unfolding IsIn IsApart
 IsApart-from_AllPairs [] h = tt
-IsApart-from_AllPairs (x ∷ xs) h = (λ z m e. let r = Contains-from_IsIn z xs m in h 0 (suc r.0) z (omega arith) (omega (arith, r.1)) (e ∙ sym r.2), IsApart-from_AllPairs xs (λ i j d p q. h (suc i) (suc j) d (omega arith) (omega arith)))
+IsApart-from_AllPairs (x ∷ xs) h = (λ z m e. let r = Contains-from_IsIn z xs m in h 0 (suc r.0) z (omega arith) (omega (arith, r.1)) (e ∙ sym r.2), IsApart-from_AllPairs xs (AllPairs-tail (λ x y. x ≢ y) x xs h))
 
 -- the list without one place where x stands: all else is still in it
 without : {A : Type 0} (x : A) (ys : List A) → IsIn x ys → (zs : List A) × (length ys ≡ suc (length zs)) × ((z : A) → IsIn z ys → x ≢ z → IsIn z zs)
@@ -84,7 +85,7 @@ Rises-pairs a n (x ∷ xs) h = let r = Rises-pairs (suc x) n xs h.2 in (AllPairs
 Rises-from_pairs : (a n : ℕ) (xs : List ℕ) → All (λ x. a ≤ x) xs → AllPairs (λ x y. x < y) xs → All (λ x. x < n) xs → Rises a n xs
 unfolding Rises
 Rises-from_pairs a n [] l p b = tt
-Rises-from_pairs a n (x ∷ xs) l p b = (All-head (λ x. a ≤ x) x xs l, All-head (λ x. x < n) x xs b, Rises-from_pairs (suc x) n xs (λ k d q. p 0 (suc k) d (omega arith) (omega arith)) (λ i j d q r. p (suc i) (suc j) d (omega arith) (omega arith)) (All-tail (λ x. x < n) x xs b))
+Rises-from_pairs a n (x ∷ xs) l p b = (All-head (λ x. a ≤ x) x xs l, All-head (λ x. x < n) x xs b, Rises-from_pairs (suc x) n xs (AllPairs-head (λ x y. x < y) x xs p) (AllPairs-tail (λ x y. x < y) x xs p) (All-tail (λ x. x < n) x xs b))
 
 -- ---- the choices
 

@@ -2,22 +2,40 @@
 use Prim.Native.Nat.{◌∣◌}
 use lib.IntN.{*ℤ_comm}
 use Rattle.std.specs.Int.{IsGcd}
-use Rattle.std.proofs.Math.Nat.{dvd-mul_left, dvd-mul_right, mul-dvd-mul_right, dvd_of_mul-dvd-mul_right, div-mul_cancel, mul_comm, one-mul, pos_of_dvd_of_pos}
+use Rattle.std.proofs.Math.Nat.{dvd-mul_left, dvd-mul_right, mul-dvd-mul_right, dvd_of_mul-dvd-mul_right, div-mul_cancel, mul_comm, one-dvd, one-mul, pos_of_dvd_of_pos}
 use Rattle.std.proofs.lemmas.Int.{unsigned_abs-mul}
 use Rattle.std.proofs.lemmas.List.Elements.{All-nil, All-cons, All-head, All-tail}
 use Rattle.std.proofs.lemmas.Nat.Gcd.{dvd_refl, dvd-zero, dvd_trans, dvd_antisymm}
-use Rattle.std.proofs.Common.{◌≡◌, ◌↔◌, ℕ, zero, suc, ◌+◌, ◌*◌, ◌/◌, ◌<◌, length, get_or, drop, List, [], ◌∷◌, ℤ, pos, negsuc, ◌*ℤ◌, neg_ℤ, ◌<ℤ◌, unsigned_abs, int_div, refl, sym, ap, ap₂, subst, subst₂, ◌∙◌, arith, add-one, drop-cons}
+use Rattle.std.proofs.Common.{◌≡◌, ◌↔◌, ℕ, zero, suc, ◌+◌, ◌*◌, ◌/◌, ◌<◌, length, get_or, drop, List, [], ◌∷◌, ℤ, pos, negsuc, ◌*ℤ◌, neg_ℤ, ◌≤ℤ◌, ◌<ℤ◌, unsigned_abs, int_div, refl, sym, ap, ap₂, subst, subst₂, ◌∙◌, arith, add-one, drop-cons}
 use Rattle.integers.specs.Divisibility.{IsLowest, IsGcdOf, DividesAll, IsGcdOfAll, quotients, divisor_of_all}
 use Rattle.integers.specs.Vector.{dot, scale}
 use Rattle.integers.proofs.Gcd.{IsGcd-exists, IsGcd-common_divisor, dvd_of_coprime, AreCoprime-divided}
-use Rattle.integers.proofs.Laws.{*ℤ-neg_ℤ, lin}
-use Rattle.integers.proofs.Order.{cancel_eq, divided_pos, divided_same}
+use Rattle.integers.proofs.Laws.{*ℤ-neg_ℤ, lin, one-*ℤ}
+use Rattle.integers.proofs.Order.{cancel_eq, divided_pos, divided_same, le_of_lt}
 use Rattle.integers.proofs.Vector.{dot-scale}
 
--- a positive number is its absolute value
-pub pos-unsigned_abs : (a : ℤ) → pos 0 <ℤ a → pos (unsigned_abs a) ≡ a
+-- ---- absolute values
+
+-- a number that is not negative is its absolute value
+pub pos-unsigned_abs : (a : ℤ) → pos 0 ≤ℤ a → pos (unsigned_abs a) ≡ a
 pos-unsigned_abs (pos n) p = refl
-pos-unsigned_abs (negsuc n) p = absurd p.lt
+pos-unsigned_abs (negsuc n) p = absurd p.le
+
+-- a positive number has a positive absolute value
+pub unsigned_abs_pos : (a : ℤ) → pos 0 <ℤ a → 0 < unsigned_abs a
+unsigned_abs_pos (pos n) p = omega (arith, lin)
+unsigned_abs_pos (negsuc n) p = absurd p.lt
+
+-- the sign does not show in the absolute value
+pub unsigned_abs-neg : (a : ℤ) → unsigned_abs (neg_ℤ a) ≡ unsigned_abs a
+unsigned_abs-neg (pos zero) = refl
+unsigned_abs-neg (pos (suc n)) = refl
+unsigned_abs-neg (negsuc n) = refl
+
+-- a divisor of a positive number is positive
+pub positive_divisor : (a z : ℤ) → pos 0 <ℤ a → unsigned_abs z ∣ unsigned_abs a → pos 0 ≤ℤ z → pos 0 <ℤ z
+positive_divisor a (pos n) p h s = let some : 0 < n = pos_of_dvd_of_pos h (unsigned_abs_pos a p) in omega (arith, lin)
+positive_divisor a (negsuc n) p h s = absurd s.le
 
 -- ---- fractions in lowest terms
 
@@ -27,7 +45,7 @@ same_parts a b c d low low' pb pd e =
     let sizes : unsigned_abs a * unsigned_abs d ≡ unsigned_abs c * unsigned_abs b = sym (unsigned_abs-mul a d) ∙ ap unsigned_abs e ∙ unsigned_abs-mul c b in
     let one_way : unsigned_abs b ∣ unsigned_abs d = dvd_of_coprime (unsigned_abs a) (unsigned_abs b) (unsigned_abs d) low (subst (λ n. unsigned_abs b ∣ n) (sym sizes) (dvd-mul_left (unsigned_abs b) (unsigned_abs c))) in
     let other_way : unsigned_abs d ∣ unsigned_abs b = dvd_of_coprime (unsigned_abs c) (unsigned_abs d) (unsigned_abs b) low' (subst (λ n. unsigned_abs d ∣ n) sizes (dvd-mul_left (unsigned_abs d) (unsigned_abs a))) in
-    let dens : b ≡ d = sym (pos-unsigned_abs b pb) ∙ ap pos (dvd_antisymm one_way other_way) ∙ pos-unsigned_abs d pd in
+    let dens : b ≡ d = sym (pos-unsigned_abs b (le_of_lt (pos 0) b pb)) ∙ ap pos (dvd_antisymm one_way other_way) ∙ pos-unsigned_abs d (le_of_lt (pos 0) d pd) in
     (cancel_eq a c b pb (ap (λ z. a *ℤ z) dens ∙ e), dens)
 
 -- a numerator and a denominator divided by their greatest common divisor are in lowest terms
@@ -39,6 +57,10 @@ IsLowest-divided a b g p h = AreCoprime-divided (unsigned_abs a) (unsigned_abs b
 -- the empty list has every divisor
 pub DividesAll-nil : (d : ℕ) → DividesAll d []
 DividesAll-nil d = All-nil (λ x. d ∣ unsigned_abs x)
+
+-- every list is divided by 1
+pub DividesAll-one : (xs : List ℤ) → DividesAll 1 xs
+DividesAll-one xs k d h = one-dvd (unsigned_abs (get_or xs k d))
 
 -- a divisor of one number more
 pub DividesAll-cons : (d : ℕ) (x : ℤ) (xs : List ℤ) → DividesAll d (x ∷ xs) ↔ (d ∣ unsigned_abs x) × DividesAll d xs
@@ -94,12 +116,8 @@ same_from_IsGcdOfAll xs g h p q = dvd_antisymm (q.1 g p.0) (p.1 h q.0)
 -- numbers divided by their greatest common divisor have 1 as theirs, and the converse
 pub IsGcdOfAll-divided : (g : ℕ) (xs : List ℤ) → 0 < g → IsGcdOfAll (scale (pos g) xs) g ↔ IsGcdOfAll xs 1
 IsGcdOfAll-divided g xs p =
-    (λ h. (one_divides xs, λ d q. dvd_of_mul-dvd-mul_right d p (subst (λ n. d * g ∣ n) (sym (one-mul g)) (h.1 (d * g) ((DividesAll-scale d g xs p).0 q)))), λ h. back (IsGcdOfAll-exists (scale (pos g) xs)) h)
+    (λ h. (DividesAll-one xs, λ d q. dvd_of_mul-dvd-mul_right d p (subst (λ n. d * g ∣ n) (sym (one-mul g)) (h.1 (d * g) ((DividesAll-scale d g xs p).0 q)))), λ h. back (IsGcdOfAll-exists (scale (pos g) xs)) h)
   where
-    one_divides : (xs : List ℤ) → DividesAll 1 xs
-    one_divides [] = DividesAll-nil 1
-    one_divides (x ∷ xs) = (DividesAll-cons 1 x xs).1 (subst (λ n. 1 ∣ n) (one-mul (unsigned_abs x)) (dvd-mul_right 1 (unsigned_abs x)), one_divides xs)
-
     back : (f : ℕ) × IsGcdOfAll (scale (pos g) xs) f → IsGcdOfAll xs 1 → IsGcdOfAll (scale (pos g) xs) g
     back r h =
         let all : DividesAll g (scale (pos g) xs) = subst (λ n. DividesAll n (scale (pos g) xs)) (one-mul g) ((DividesAll-scale 1 g xs p).0 h.0) in
@@ -147,27 +165,41 @@ quotients-scale d (x ∷ xs) p = ap₂ (λ a b. a ∷ b) (int_div-mul x d p) (qu
 -- the absolute value of a quotient
 pub unsigned_abs-int_div : (x : ℤ) (d : ℕ) → unsigned_abs (int_div x (pos d)) ≡ unsigned_abs x / d
 unsigned_abs-int_div (pos n) d = refl
-unsigned_abs-int_div (negsuc n) d = unsigned_abs-neg (suc n / d)
-  where
-    unsigned_abs-neg : (n : ℕ) → unsigned_abs (neg_ℤ (pos n)) ≡ n
-    unsigned_abs-neg zero = refl
-    unsigned_abs-neg (suc n) = refl
+unsigned_abs-int_div (negsuc n) d = unsigned_abs-neg (pos (suc n / d))
+
+-- the quotient times the divisor
+pub quotient_whole : (b z : ℤ) → pos 0 <ℤ z → unsigned_abs z ∣ unsigned_abs b → b ≡ int_div b z *ℤ z
+quotient_whole b (pos n) p h = sym (*ℤ_comm (int_div b (pos n)) (pos n) ∙ int_div-mul_cancel b n h)
+quotient_whole b (negsuc n) p h = absurd p.lt
+
+-- the quotient of a positive number
+pub quotient_positive : (b z : ℤ) → pos 0 <ℤ b → pos 0 <ℤ z → unsigned_abs z ∣ unsigned_abs b → pos 0 <ℤ int_div b z
+quotient_positive b z pb p h = (divided_pos b (int_div b z) z p (quotient_whole b z p h)).0 pb
+
+-- the quotient divides too
+pub quotient_divides : (b z : ℤ) → pos 0 <ℤ z → unsigned_abs z ∣ unsigned_abs b → unsigned_abs (int_div b z) ∣ unsigned_abs b
+quotient_divides b z p h = subst (λ n. unsigned_abs (int_div b z) ∣ n) (sym (unsigned_abs-mul (int_div b z) z) ∙ ap unsigned_abs (sym (quotient_whole b z p h))) (dvd-mul_right (unsigned_abs (int_div b z)) (unsigned_abs z))
+
+-- divided by 1 a number is itself
+pub int_div-one : (x : ℤ) → int_div x (pos 1) ≡ x
+int_div-one x = sym (one-*ℤ (int_div x (pos 1))) ∙ int_div-mul_cancel x 1 (one-dvd (unsigned_abs x))
+
+-- and so is a list
+pub quotients-one : (xs : List ℤ) → quotients xs (pos 1) ≡ xs
+quotients-one [] = refl
+quotients-one (x ∷ xs) = ap₂ (λ a b. a ∷ b) (int_div-one x) (quotients-one xs)
 
 -- each fraction can be written in lowest terms, with the parts divided by their greatest common divisor
 pub lowest_terms : (a b : ℤ) (g : ℕ) → pos 0 <ℤ b → IsGcdOf a b g → IsLowest (int_div a (pos g)) (int_div b (pos g)) × (pos 0 <ℤ int_div b (pos g)) × (a *ℤ int_div b (pos g) ≡ int_div a (pos g) *ℤ b)
 lowest_terms a b g p h =
     let c : ℤ = int_div a (pos g) in
     let d : ℤ = int_div b (pos g) in
-    let size : 0 < unsigned_abs b = size_of b p in
+    let size : 0 < unsigned_abs b = unsigned_abs_pos b p in
     let some : 0 < g = pos_of_dvd_of_pos h.1 size in
     let positive : pos 0 <ℤ pos g = omega (arith, lin) in
     let a_is : a ≡ c *ℤ pos g = sym (*ℤ_comm c (pos g) ∙ int_div-mul_cancel a g h.0) in
     let b_is : b ≡ d *ℤ pos g = sym (*ℤ_comm d (pos g) ∙ int_div-mul_cancel b g h.1) in
     (IsLowest-divided c d g some (subst₂ (λ x y. IsGcdOf x y g) a_is b_is h), (divided_pos b d (pos g) positive b_is).0 p, divided_same a b c d (pos g) a_is b_is)
-  where
-    size_of : (z : ℤ) → pos 0 <ℤ z → 0 < unsigned_abs z
-    size_of (pos n) q = omega (arith, lin)
-    size_of (negsuc n) q = absurd q.lt
 
 -- a common divisor divides each dot product
 pub dvd-dot : (d : ℕ) (xs us : List ℤ) → DividesAll d xs → d ∣ unsigned_abs (dot xs us)
@@ -177,6 +209,15 @@ dvd-dot d xs us h = subst (λ n. d ∣ n) (sym (unsigned_abs-mul (pos d) (dot (q
 pub IsGcdOfAll-divisor_of_all : (xs : List ℤ) → IsGcdOfAll xs (divisor_of_all xs)
 IsGcdOfAll-divisor_of_all [] = IsGcdOfAll-nil
 IsGcdOfAll-divisor_of_all (x ∷ xs) = IsGcdOfAll-cons x xs (divisor_of_all xs) (divisor_of_all (x ∷ xs)) (IsGcdOfAll-divisor_of_all xs) (IsGcd-common_divisor (unsigned_abs x) (divisor_of_all xs))
+
+-- the greatest common divisor that code finds
+pub divisor-is : (xs : List ℤ) (z : ℤ) → IsGcdOfAll xs (unsigned_abs z) → pos 0 ≤ℤ z → z ≡ pos (divisor_of_all xs)
+divisor-is xs z h s = sym (pos-unsigned_abs z s) ∙ ap pos (same_from_IsGcdOfAll xs (unsigned_abs z) (divisor_of_all xs) h (IsGcdOfAll-divisor_of_all xs))
+
+-- the divisor of a list that begins with a positive number is positive
+pub divisor_of_first : (xs : List ℤ) (z : ℤ) → pos 0 <ℤ get_or xs 0 (pos 0) → IsGcdOfAll xs (unsigned_abs z) → pos 0 ≤ℤ z → pos 0 <ℤ z
+divisor_of_first [] z p h s = absurd (omega (arith, lin, p))
+divisor_of_first (x ∷ xs) z p h s = positive_divisor x z p ((DividesAll-cons (unsigned_abs z) x xs).0 h.0).0 s
 
 -- ---- for loops
 

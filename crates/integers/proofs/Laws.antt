@@ -1,9 +1,9 @@
 -- The laws of a commutative ring that std leaves out, and the sets of them that tactics take.
 use borrow.Author.Differences.{up, down, sum_is_lem, product_is, neg_is, same_in, same_out, lt_out, le_out, lt_in, le_in, below_in, at_most_in}
-use lib.IntN.{+ℤ_assoc, +ℤ_comm, +ℤ_idl, +ℤ_idr, *ℤ_comm, *ℤ-one, *ℤ-zero, zero-*ℤ, neg_ℤ-+ℤ, neg_ℤ-neg_ℤ}
+use lib.IntN.{+ℤ_assoc, +ℤ_comm, +ℤ_idl, +ℤ_idr, *ℤ_comm, *ℤ-zero, zero-*ℤ, neg_ℤ-+ℤ, neg_ℤ-neg_ℤ}
 use Rattle.std.proofs.lemmas.Int.{ints}
 use Rattle.std.proofs.lemmas.Grind.{common_steps}
-use Rattle.std.proofs.Common.{◌≡◌, ◌*◌, ℤ, pos, ◌+ℤ◌, ◌*ℤ◌, neg_ℤ, ◌≤ℤ◌, ◌<ℤ◌, sym, ap, ap₂, ◌∙◌, arith}
+use Rattle.std.proofs.Common.{◌≡◌, ◌*◌, ℤ, pos, negsuc, ◌+ℤ◌, ◌*ℤ◌, neg_ℤ, ◌≤ℤ◌, ◌<ℤ◌, sym, ap, ap₂, ◌∙◌, arith}
 
 -- a factor goes into a sum
 pub *ℤ-+ℤ : (a b c : ℤ) → a *ℤ (b +ℤ c) ≡ a *ℤ b +ℤ a *ℤ c
@@ -41,6 +41,14 @@ pub *ℤ-neg_ℤ : (a b : ℤ) → a *ℤ neg_ℤ b ≡ neg_ℤ (a *ℤ b)
 -- one times a number
 pub one-*ℤ : (a : ℤ) → pos 1 *ℤ a ≡ a
 one-*ℤ a = omega (arith, ints)
+
+-- a number times one
+pub *ℤ-one : (a : ℤ) → a *ℤ pos 1 ≡ a
+*ℤ-one a = *ℤ_comm a (pos 1) ∙ one-*ℤ a
+
+-- minus one times a number
+pub minus_one-*ℤ : (a : ℤ) → negsuc 0 *ℤ a ≡ neg_ℤ a
+minus_one-*ℤ a = neg_ℤ-*ℤ (pos 1) a ∙ ap neg_ℤ (one-*ℤ a)
 
 -- for `simp`: a term as a sum of products, each product sorted; numerals count as factors
 pub ruleset ring_laws = (*ℤ-+ℤ, +ℤ-*ℤ, *ℤ_assoc, *ℤ_left_comm, *ℤ_comm, +ℤ_assoc, +ℤ_left_comm, +ℤ_comm)

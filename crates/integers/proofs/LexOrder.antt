@@ -8,7 +8,7 @@ use Rattle.integers.specs.Lexicographic.{IsLexPositive, LexLess}
 use Rattle.integers.specs.Vector.{row_step, AreZero}
 use Rattle.integers.proofs.Fractions.{length-over, SameFraction-trans, IsBelow_irrefl, FractionLess-trans, FractionLess-same_left, FractionLess-same_right, SameFractions-sym}
 use Rattle.integers.proofs.Laws.{lin}
-use Rattle.integers.proofs.Lexicographic.{AreZero-cons, AreZero-head, AreZero-tail}
+use Rattle.integers.proofs.Zeros.{AreZero-cons, AreZero-head, AreZero-tail}
 use Rattle.integers.proofs.Order.{mul_pos, fraction_cases}
 use Rattle.integers.proofs.Ring.{con, ◌⊕◌, ◌⊗◌, ◌≗◌, ◌≺◌, ◌✶◌, ◌⇐◌, combine5}
 

@@ -1,41 +1,16 @@
 -- Lexicographically positive lists: their sums and multiples, and the three cases of a list.
-use lib.IntN.{*ℤ_comm, *ℤ-zero, zero-*ℤ}
+use lib.IntN.{*ℤ_comm, *ℤ-zero}
 use Rattle.std.specs.Int.Signed.{<ℤ_irrefl}
-use Rattle.std.proofs.lemmas.List.Elements.{All-nil, All-cons, All-head, All-tail}
-use Rattle.std.proofs.Common.{◌≡◌, ◌⊎◌, inl, inr, ◌↔◌, ◌≤◌, length, List, [], ◌∷◌, All, ℤ, pos, negsuc, ◌+ℤ◌, ◌*ℤ◌, neg_ℤ, ◌≤ℤ◌, ◌<ℤ◌, refl, sym, ap, ap₂, subst, ◌∙◌, arith}
+use Rattle.std.proofs.lemmas.List.Elements.{All-nil, All-head, All-tail}
+use Rattle.std.proofs.Common.{◌≡◌, ◌⊎◌, inl, inr, ◌↔◌, ◌≤◌, length, List, [], ◌∷◌, All, ℤ, pos, negsuc, ◌+ℤ◌, ◌*ℤ◌, neg_ℤ, ◌≤ℤ◌, ◌<ℤ◌, sym, ap, ap₂, subst, ◌∙◌, arith}
+use Rattle.std.specs.List.{AllZip}
 use Rattle.integers.specs.Lexicographic.{IsLexPositive}
 use Rattle.integers.specs.Vector.{scale, add, row_step, weighted_sum, products, AreZero, AreNonNegative}
-use Rattle.integers.proofs.Laws.{lin}
-use Rattle.integers.proofs.Order.{mul_pos, pos_of_mul, zero_of_mul, lt_cases}
-use Rattle.integers.proofs.Ring.{neg, con, ◌⊗◌, ◌≗◌, ring1}
+use Rattle.integers.proofs.Laws.{lin, minus_one-*ℤ}
+use Rattle.integers.proofs.Order.{le_of_lt, mul_pos, pos_of_mul, zero_of_mul, lt_cases}
 use Rattle.integers.proofs.Vector.{row_step_lem}
 use Rattle.integers.proofs.VectorLaws.{add_comm}
-
--- ---- lists of zeros
-
--- one zero more
-pub AreZero-cons : (x : ℤ) (xs : List ℤ) → x ≡ pos 0 → AreZero xs → AreZero (x ∷ xs)
-AreZero-cons x xs e z = All-cons (λ x. x ≡ pos 0) x xs e z
-
--- the first of a list of zeros
-pub AreZero-head : (x : ℤ) (xs : List ℤ) → AreZero (x ∷ xs) → x ≡ pos 0
-AreZero-head x xs z = All-head (λ x. x ≡ pos 0) x xs z
-
--- the rest of a list of zeros
-pub AreZero-tail : (x : ℤ) (xs : List ℤ) → AreZero (x ∷ xs) → AreZero xs
-AreZero-tail x xs z = All-tail (λ x. x ≡ pos 0) x xs z
-
--- 0 times a list
-pub AreZero-scale_zero : (xs : List ℤ) → AreZero (scale (pos 0) xs)
-AreZero-scale_zero [] = All-nil (λ x. x ≡ pos 0)
-AreZero-scale_zero (x ∷ xs) = AreZero-cons (pos 0 *ℤ x) (scale (pos 0) xs) (zero-*ℤ x) (AreZero-scale_zero xs)
-
--- sums of zeros
-pub AreZero-add : (xs ys : List ℤ) → AreZero xs → AreZero ys → AreZero (add xs ys)
-AreZero-add [] ys p q = q
-AreZero-add (x ∷ xs) [] p q = p
-AreZero-add (x ∷ xs) (y ∷ ys) p q =
-    AreZero-cons (x +ℤ y) (add xs ys) (ap₂ (λ a b. a +ℤ b) (AreZero-head x xs p) (AreZero-head y ys q)) (AreZero-add xs ys (AreZero-tail x xs p) (AreZero-tail y ys q))
+use Rattle.integers.proofs.Zeros.{AreZero-cons, AreZero-head, AreZero-tail, AreZero-scale_zero, AreZero-add}
 
 -- ---- positive lists
 
@@ -44,6 +19,11 @@ pub IsLexPositive-not_zero : (xs : List ℤ) → IsLexPositive xs → ¬ AreZero
 IsLexPositive-not_zero [] p z = p
 IsLexPositive-not_zero (x ∷ xs) (inl p) z = <ℤ_irrefl (subst (λ a. pos 0 <ℤ a) (AreZero-head x xs z) p)
 IsLexPositive-not_zero (x ∷ xs) (inr p) z = IsLexPositive-not_zero xs p.1 (AreZero-tail x xs z)
+
+-- the first number of a lexicographically positive list is not negative
+pub IsLexPositive-first : (x : ℤ) (xs : List ℤ) → IsLexPositive (x ∷ xs) → pos 0 ≤ℤ x
+IsLexPositive-first x xs (inl p) = le_of_lt (pos 0) x p
+IsLexPositive-first x xs (inr p) = let z = p.0 in omega (arith, lin)
 
 -- a positive multiple of a positive list, and the converse
 pub IsLexPositive-scale : (c : ℤ) (xs : List ℤ) → pos 0 <ℤ c → IsLexPositive xs ↔ IsLexPositive (scale c xs)
@@ -76,6 +56,18 @@ IsLexPositive-products ds xs p l = (to ds xs p l, from ds xs p l)
     from (d ∷ ds) (x ∷ xs) p l (inl h) = inl (pos_of_mul x d (All-head (λ d. pos 0 <ℤ d) d ds p) (subst (λ z. pos 0 <ℤ z) (*ℤ_comm d x) h))
     from (d ∷ ds) (x ∷ xs) p l (inr h) = inr (zero_of_mul x d (All-head (λ d. pos 0 <ℤ d) d ds p) (*ℤ_comm x d ∙ h.0), from ds xs (All-tail (λ d. pos 0 <ℤ d) d ds p) (omega arith) h.1)
 
+-- the first number is a positive multiple of the second
+abbrev pub IsMultiple : ℤ → ℤ → Type 0
+IsMultiple x y = (c : ℤ) × (pos 0 <ℤ c) × (c *ℤ y ≡ x)
+
+-- a list is positive where positive multiples of its numbers are
+pub IsLexPositive-multiples : (xs ys : List ℤ) → AllZip IsMultiple xs ys → IsLexPositive xs → IsLexPositive ys
+IsLexPositive-multiples [] [] m h = h
+IsLexPositive-multiples [] (y ∷ ys) m h = absurd m
+IsLexPositive-multiples (x ∷ xs) [] m h = absurd m
+IsLexPositive-multiples (x ∷ xs) (y ∷ ys) m (inl h) = inl (pos_of_mul y m.0.0 m.0.1 (subst (λ z. pos 0 <ℤ z) (sym m.0.2 ∙ *ℤ_comm m.0.0 y) h))
+IsLexPositive-multiples (x ∷ xs) (y ∷ ys) m (inr h) = inr (zero_of_mul y m.0.0 m.0.1 (*ℤ_comm y m.0.0 ∙ m.0.2 ∙ h.0), IsLexPositive-multiples xs ys m.1 h.1)
+
 -- the sum of two positive lists
 pub IsLexPositive-add : (xs ys : List ℤ) → IsLexPositive xs → IsLexPositive ys → IsLexPositive (add xs ys)
 IsLexPositive-add [] ys p q = q
@@ -92,16 +84,12 @@ IsLexPositive-add_zero (x ∷ xs) [] p q = p
 IsLexPositive-add_zero (x ∷ xs) (y ∷ ys) (inl p) q = let e = AreZero-head y ys q in inl (omega (arith, lin))
 IsLexPositive-add_zero (x ∷ xs) (y ∷ ys) (inr p) q = inr (ap₂ (λ a b. a +ℤ b) p.0 (AreZero-head y ys q), IsLexPositive-add_zero xs ys p.1 (AreZero-tail y ys q))
 
--- the opposite of a number, as `scale` writes it
-minus : (x : ℤ) → negsuc 0 *ℤ x ≡ neg_ℤ x
-minus x = ring1 (λ x. con (negsuc 0) ⊗ x ≗ neg x) refl x
-
 -- of a list and its opposite at most one is positive
 pub IsLexPositive-opposite : (xs : List ℤ) → IsLexPositive xs → ¬ IsLexPositive (scale (negsuc 0) xs)
 IsLexPositive-opposite [] p q = p
-IsLexPositive-opposite (x ∷ xs) (inl p) (inl q) = let e = minus x in absurd (omega (arith, lin))
-IsLexPositive-opposite (x ∷ xs) (inl p) (inr q) = let e = minus x in let z = q.0 in absurd (omega (arith, lin))
-IsLexPositive-opposite (x ∷ xs) (inr p) (inl q) = let e = minus x in let z = p.0 in absurd (omega (arith, lin))
+IsLexPositive-opposite (x ∷ xs) (inl p) (inl q) = let e = minus_one-*ℤ x in absurd (omega (arith, lin))
+IsLexPositive-opposite (x ∷ xs) (inl p) (inr q) = let e = minus_one-*ℤ x in let z = q.0 in absurd (omega (arith, lin))
+IsLexPositive-opposite (x ∷ xs) (inr p) (inl q) = let e = minus_one-*ℤ x in let z = p.0 in absurd (omega (arith, lin))
 IsLexPositive-opposite (x ∷ xs) (inr p) (inr q) = IsLexPositive-opposite xs p.1 q.1
 
 -- a list is positive, or all zeros, or its opposite is positive
@@ -114,7 +102,7 @@ lex_cases (x ∷ xs) = step (lt_cases (pos 0) x) (lex_cases xs)
     step (inr (inl e)) (inl p) = inl (inr (sym e, p))
     step (inr (inl e)) (inr (inl z)) = inr (inl (AreZero-cons x xs (sym e) z))
     step (inr (inl e)) (inr (inr n)) = inr (inr (inr (ap (λ z. negsuc 0 *ℤ z) (sym e), n)))
-    step (inr (inr p)) c = let e = minus x in inr (inr (inl (omega (arith, lin))))
+    step (inr (inr p)) c = let e = minus_one-*ℤ x in inr (inr (inl (omega (arith, lin))))
 
 -- ---- rows
 

@@ -2,9 +2,9 @@
 -- equal normal forms mean equal values (`same_value`). `Rattle.integers.proofs.Ring` has the calls.
 use Prim.Native.Nat.{compare, Ordering}
 use lib.Dec.{eqb→eq, compare_is_eq}
-use lib.IntN.{+ℤ_idl, +ℤ_idr, +ℤ_comm, +ℤ_assoc, *ℤ-zero, zero-*ℤ, *ℤ_comm, neg_ℤ-+ℤ}
+use lib.IntN.{+ℤ_idl, +ℤ_idr, +ℤ_comm, +ℤ_assoc, *ℤ-zero, zero-*ℤ, neg_ℤ-+ℤ}
 use Rattle.std.proofs.Common.{◌≡◌, ℕ, zero, suc, Bool, true, false, T, leb, List, [], ◌∷◌, ℤ, pos, negsuc, ◌+ℤ◌, ◌-ℤ◌, ◌*ℤ◌, neg_ℤ, refl, sym, ap, ap₂, ◌∙◌}
-use Rattle.integers.proofs.Laws.{*ℤ-+ℤ, +ℤ-*ℤ, *ℤ_assoc, *ℤ_left_comm, +ℤ_left_comm, neg_ℤ-*ℤ, one-*ℤ}
+use Rattle.integers.proofs.Laws.{*ℤ-+ℤ, +ℤ-*ℤ, *ℤ_assoc, *ℤ_left_comm, +ℤ_left_comm, neg_ℤ-*ℤ, one-*ℤ, *ℤ-one}
 
 -- ---- terms and their values
 
@@ -186,8 +186,8 @@ neg_poly_lem env (term c m p) = ap₂ (λ x y. x +ℤ y) (neg_ℤ-*ℤ c (eval_m
 
 -- the normal form has the term's value
 pub norm_lem : (env : List ℤ) (e : Expr) → eval_poly env (norm e) ≡ eval env e
-norm_lem env (var i) = +ℤ_idr (pos 1 *ℤ (at env i *ℤ pos 1)) ∙ one-*ℤ (at env i *ℤ pos 1) ∙ *ℤ_comm (at env i) (pos 1) ∙ one-*ℤ (at env i)
-norm_lem env (con c) = keep_lem env c [] nil ∙ +ℤ_idr (c *ℤ pos 1) ∙ *ℤ_comm c (pos 1) ∙ one-*ℤ c
+norm_lem env (var i) = +ℤ_idr (pos 1 *ℤ (at env i *ℤ pos 1)) ∙ one-*ℤ (at env i *ℤ pos 1) ∙ *ℤ-one (at env i)
+norm_lem env (con c) = keep_lem env c [] nil ∙ +ℤ_idr (c *ℤ pos 1) ∙ *ℤ-one c
 norm_lem env (neg e) = neg_poly_lem env (norm e) ∙ ap neg_ℤ (norm_lem env e)
 norm_lem env (a ⊕ b) = add_poly_lem env (norm a) (norm b) ∙ ap₂ (λ x y. x +ℤ y) (norm_lem env a) (norm_lem env b)
 norm_lem env (a ⊖ b) = add_poly_lem env (neg_poly (norm b)) (norm a) ∙ ap₂ (λ x y. x +ℤ y) (neg_poly_lem env (norm b) ∙ ap neg_ℤ (norm_lem env b)) (norm_lem env a) ∙ +ℤ_comm (neg_ℤ (eval env b)) (eval env a)

@@ -1,11 +1,12 @@
 -- Sums and multiples of lists: lengths, single numbers, and the laws that hold between them.
 use lib.IntN.{+ℤ_idl, +ℤ_idr, +ℤ_comm, +ℤ_assoc, *ℤ_comm, *ℤ-zero}
-use Rattle.std.proofs.Common.{◌≡◌, ℕ, zero, suc, ◌+◌, ◌<◌, max, length, get_or, replicate, map, List, [], ◌∷◌, ◌++◌, take, drop, ℤ, pos, ◌+ℤ◌, ◌-ℤ◌, ◌*ℤ◌, neg_ℤ, ◌<ℤ◌, refl, sym, ap, ap₂, ◌∙◌, arith, add-one, drop-cons}
 use mathlib.Core.List.{cons≢nil, head-eq_of_cons-eq, tail-eq_of_cons-eq}
+use Rattle.std.proofs.Common.{◌≡◌, ℕ, zero, suc, ◌+◌, ◌<◌, ◌≤◌, All, max, length, get_or, set, replicate, map, List, [], ◌∷◌, ◌++◌, take, drop, ℤ, pos, ◌+ℤ◌, ◌-ℤ◌, ◌*ℤ◌, neg_ℤ, ◌<ℤ◌, refl, sym, ap, ap₂, ◌∙◌, arith, add-one, drop-cons}
+use Rattle.std.proofs.lemmas.List.Elements.{All-head, All-tail}
 use Rattle.integers.specs.Vector.{dot, scale, add, row_step, weighted_sum, dot_each, column_of, products, int_sum}
-use Rattle.integers.proofs.Laws.{lin, *ℤ_assoc, *ℤ-+ℤ, +ℤ-*ℤ, one-*ℤ}
+use Rattle.integers.proofs.Laws.{lin, *ℤ_assoc, *ℤ-+ℤ, +ℤ-*ℤ, one-*ℤ, *ℤ-one}
 use Rattle.integers.proofs.Order.{cancel_eq}
-use Rattle.integers.proofs.Ring.{neg, ◌⊕◌, ◌⊖◌, ◌⊗◌, ◌≗◌, ring4}
+use Rattle.integers.proofs.Ring.{neg, con, ◌⊕◌, ◌⊖◌, ◌⊗◌, ◌≗◌, ring2, ring3, ring4, ring5}
 use Rattle.integers.proofs.Vector.{row_step_lem, dot-nil}
 
 -- ---- lengths
@@ -26,6 +27,15 @@ pub length-row_step : (p q : ℤ) (xs ys : List ℤ) → length (row_step p q xs
 length-row_step p q [] ys = omega (arith, length-scale (neg_ℤ q) ys)
 length-row_step p q (x ∷ xs) [] = omega (arith, length-scale p xs)
 length-row_step p q (x ∷ xs) (y ∷ ys) = omega (arith, length-row_step p q xs ys)
+
+-- a sum of rows is no longer than they are
+pub length-weighted_sum : (n : ℕ) (ys : List ℤ) (rows : List (List ℤ)) → All (λ (row : List ℤ). length row ≡ n) rows → length (weighted_sum ys rows) ≤ n
+length-weighted_sum n [] rows h = omega arith
+length-weighted_sum n (y ∷ ys) [] h = omega arith
+length-weighted_sum n (y ∷ ys) (row ∷ rows) h =
+    let first = All-head (λ (row : List ℤ). length row ≡ n) row rows h in
+    let rest = length-weighted_sum n ys rows (All-tail (λ (row : List ℤ). length row ≡ n) row rows h) in
+    omega (arith, length-add (scale y row) (weighted_sum ys rows), length-scale y row)
 
 -- as many products as rows
 pub length-dot_each : (rows : List (List ℤ)) (us : List ℤ) → length (dot_each rows us) ≡ length rows
@@ -122,6 +132,12 @@ pub scale-map : (c : ℤ) (xs : List ℤ) → scale c xs ≡ map (λ x. c *ℤ x
 scale-map c [] = refl
 scale-map c (x ∷ xs) = ap (λ zs. (c *ℤ x) ∷ zs) (scale-map c xs)
 
+-- a multiple of a changed list
+pub scale-set : (c : ℤ) (xs : List ℤ) (i : ℕ) (a : ℤ) → scale c (set xs i a) ≡ set (scale c xs) i (c *ℤ a)
+scale-set c [] i a = refl
+scale-set c (x ∷ xs) zero a = refl
+scale-set c (x ∷ xs) (suc i) a = ap (λ zs. (c *ℤ x) ∷ zs) (scale-set c xs i a)
+
 -- a positive factor is cancelled from lists
 pub scale_cancel : (c : ℤ) (xs ys : List ℤ) → pos 0 <ℤ c → scale c xs ≡ scale c ys → xs ≡ ys
 scale_cancel c [] [] p e = refl
@@ -134,6 +150,19 @@ pub row_step-scale : (p q c : ℤ) (xs ys : List ℤ) → row_step p q (scale c 
 row_step-scale p q c xs ys =
     let left : (z : ℤ) (zs : List ℤ) → scale z (scale c zs) ≡ scale c (scale z zs) = λ z zs. scale-scale z c zs ∙ ap (λ d. scale d zs) (*ℤ_comm z c) ∙ sym (scale-scale c z zs) in
     row_step_lem p q (scale c xs) (scale c ys) ∙ ap₂ add (left p xs) (left (neg_ℤ q) ys) ∙ sym (scale-add c (scale p xs) (scale (neg_ℤ q) ys)) ∙ ap (scale c) (sym (row_step_lem p q xs ys))
+
+-- a multiple of a row step takes both factors as often
+pub scale-row_step : (c p q : ℤ) (xs ys : List ℤ) → scale c (row_step p q xs ys) ≡ row_step (p *ℤ c) (q *ℤ c) xs ys
+scale-row_step c p q [] ys = scale-scale c (neg_ℤ q) ys ∙ ap (λ z. scale z ys) (ring2 (λ c q. c ⊗ neg q ≗ neg (q ⊗ c)) refl c q)
+scale-row_step c p q (x ∷ xs) [] = ap₂ (λ z zs. z ∷ zs) (ring3 (λ c p x. c ⊗ (p ⊗ x) ≗ (p ⊗ c) ⊗ x) refl c p x) (scale-scale c p xs ∙ ap (λ z. scale z xs) (*ℤ_comm c p))
+scale-row_step c p q (x ∷ xs) (y ∷ ys) = ap₂ (λ z zs. z ∷ zs) (ring5 (λ c p q x y. c ⊗ (p ⊗ x ⊖ q ⊗ y) ≗ (p ⊗ c) ⊗ x ⊖ (q ⊗ c) ⊗ y) refl c p q x y) (scale-row_step c p q xs ys)
+
+-- the row step with 0 and with a number of the other sign in one place has the number's multiple there
+pub row_step-set : (p q : ℤ) (xs ys : List ℤ) (e : ℕ) (y : ℤ) → length xs ≡ length ys → e < length xs → row_step p q (set xs e (pos 0)) (set ys e (neg_ℤ y)) ≡ set (row_step p q xs ys) e (q *ℤ y)
+row_step-set p q [] ys e y same h = absurd (omega arith)
+row_step-set p q (a ∷ xs) [] e y same h = absurd (omega arith)
+row_step-set p q (a ∷ xs) (b ∷ ys) zero y same h = ap (λ z. z ∷ row_step p q xs ys) (ring3 (λ p q y. p ⊗ con (pos 0) ⊖ q ⊗ neg y ≗ q ⊗ y) refl p q y)
+row_step-set p q (a ∷ xs) (b ∷ ys) (suc e) y same h = ap (λ zs. (p *ℤ a -ℤ q *ℤ b) ∷ zs) (row_step-set p q xs ys e y (omega arith) (omega arith))
 
 -- a sum of factors
 pub scale_sum : (c d : ℤ) (xs : List ℤ) → scale (c +ℤ d) xs ≡ add (scale c xs) (scale d xs)
@@ -184,7 +213,7 @@ int_sum-products (x ∷ xs) (y ∷ ys) = ap (λ z. x *ℤ y +ℤ z) (int_sum-pro
 -- the product with ones is the sum
 pub dot-ones : (xs : List ℤ) → dot xs (replicate (length xs) (pos 1)) ≡ int_sum xs
 dot-ones [] = refl
-dot-ones (x ∷ xs) = ap₂ (λ a b. a +ℤ b) (*ℤ_comm x (pos 1) ∙ one-*ℤ x) (dot-ones xs)
+dot-ones (x ∷ xs) = ap₂ (λ a b. a +ℤ b) (*ℤ-one x) (dot-ones xs)
 
 -- a product in two parts, before the place i and from there on
 pub dot-split : (i : ℕ) (xs us : List ℤ) → dot xs us ≡ dot (take i xs) (take i us) +ℤ dot (drop i xs) (drop i us)

@@ -1,13 +1,29 @@
 -- Lists of numbers that are at least 0, or each at most another: what follows for dot products, up to weak duality.
-use lib.IntN.{zero-*ℤ, *ℤ_comm}
-use Rattle.std.specs.Int.Signed.{≤ℤ_refl}
-use Rattle.std.proofs.lemmas.List.Elements.{All-nil, All-cons, All-head, All-tail}
-use Rattle.std.proofs.Common.{ℕ, zero, suc, get_or, List, [], ◌∷◌, ℤ, pos, ◌*ℤ◌, ◌≤ℤ◌, ◌<ℤ◌, ◌↔◌, sym, subst, subst₂, ◌∙◌, arith}
+use lib.IntN.{zero-*ℤ, *ℤ_comm, *ℤ-zero}
+use Rattle.std.specs.Int.Signed.{≤ℤ_refl, <ℤ_irrefl}
+use Rattle.std.proofs.lemmas.List.Elements.{All-nil, All-cons, All-head, All-tail, All-from_get_or}
+use Rattle.std.proofs.Common.{◌≡◌, ◌⊎◌, inl, inr, ◌<◌, length, replicate, All, refl, ap, negsuc, ℕ, zero, suc, get_or, List, [], ◌∷◌, ℤ, pos, ◌*ℤ◌, ◌≤ℤ◌, ◌<ℤ◌, ◌↔◌, sym, subst, subst₂, ◌∙◌, arith}
 use Rattle.integers.specs.Vector.{dot, scale, add, weighted_sum, dot_each, int_sum, AreNonNegative, AreAtMost}
-use Rattle.integers.proofs.Laws.{lin}
-use Rattle.integers.proofs.Order.{mul_nonneg, mul_pos, mul_le, le_trans}
+use Rattle.integers.proofs.Laws.{lin, minus_one-*ℤ}
+use Rattle.integers.proofs.Order.{mul_nonneg, mul_pos, mul_le, le_trans, lt_cases}
 use Rattle.integers.proofs.VectorLaws.{get_or-scale, get_or-add}
 use Rattle.integers.proofs.Vector.{dot_comm, dot-scale, dot-scale_right, dot-weighted_sum}
+
+-- a number at a place is not negative
+pub get_or_nonneg : (qs : List ℤ) → AreNonNegative qs → (c : ℕ) → pos 0 ≤ℤ get_or qs c (pos 0)
+get_or_nonneg [] h c = ≤ℤ_refl (pos 0)
+get_or_nonneg (q ∷ qs) h zero = All-head (λ x. pos 0 ≤ℤ x) q qs h
+get_or_nonneg (q ∷ qs) h (suc c) = get_or_nonneg qs (All-tail (λ x. pos 0 ≤ℤ x) q qs h) c
+
+-- a place with a positive number is one of the list
+pub below_length : (us : List ℤ) (e : ℕ) → pos 0 <ℤ get_or us e (pos 0) → e < length us
+below_length [] e h = absurd (<ℤ_irrefl h)
+below_length (u ∷ us) zero h = omega arith
+below_length (u ∷ us) (suc e) h = let k = below_length us e h in omega arith
+
+-- the opposites of numbers that are not positive are not negative
+pub opposites_nonneg : (xs : List ℤ) → ((f : ℕ) → get_or xs f (pos 0) ≤ℤ pos 0) → AreNonNegative (scale (negsuc 0) xs)
+opposites_nonneg xs h = All-from_get_or (λ x. pos 0 ≤ℤ x) (scale (negsuc 0) xs) (pos 0) (λ f l. let e = get_or-scale (negsuc 0) xs f in let k = h f in omega (arith, lin, minus_one-*ℤ (get_or xs f (pos 0))))
 
 -- the product of lists of numbers at least 0 is at least 0
 pub dot_nonneg : (xs us : List ℤ) → AreNonNegative xs → AreNonNegative us → pos 0 ≤ℤ dot xs us
@@ -41,6 +57,33 @@ dot_le (x ∷ xs) (y ∷ ys) (u ∷ us) h q =
 pub dot_le_right : (us xs ys : List ℤ) → AreAtMost xs ys → AreNonNegative us → dot us xs ≤ℤ dot us ys
 dot_le_right us xs ys h q = subst₂ (λ a b. a ≤ℤ b) (dot_comm xs us) (dot_comm ys us) (dot_le xs ys us h q)
 
+-- coefficients that are not negative where a number is positive have a product that is positive, or 0 with 0 at each such place
+pub dot_cases : (cs us : List ℤ) → AreNonNegative us → ((e : ℕ) → pos 0 <ℤ get_or us e (pos 0) → pos 0 ≤ℤ get_or cs e (pos 0)) → pos 0 <ℤ dot cs us ⊎ (dot cs us ≡ pos 0) × ((e : ℕ) → pos 0 <ℤ get_or us e (pos 0) → get_or cs e (pos 0) ≡ pos 0)
+dot_cases [] us n h = inr (refl, λ e p. refl)
+dot_cases (c ∷ cs) [] n h = inr (refl, λ e p. absurd (<ℤ_irrefl p))
+dot_cases (c ∷ cs) (u ∷ us) n h = step (lt_cases (pos 0) u) (lt_cases (pos 0) c) (dot_cases cs us (All-tail (λ x. pos 0 ≤ℤ x) u us n) (λ e p. h (suc e) p))
+  where
+    nonneg : pos 0 ≤ℤ u
+    nonneg = All-head (λ x. pos 0 ≤ℤ x) u us n
+
+    later : pos 0 <ℤ dot cs us ⊎ (dot cs us ≡ pos 0) × ((e : ℕ) → pos 0 <ℤ get_or us e (pos 0) → get_or cs e (pos 0) ≡ pos 0) → c *ℤ u ≡ pos 0 → (pos 0 <ℤ u → c ≡ pos 0) → pos 0 <ℤ dot (c ∷ cs) (u ∷ us) ⊎ (dot (c ∷ cs) (u ∷ us) ≡ pos 0) × ((e : ℕ) → pos 0 <ℤ get_or (u ∷ us) e (pos 0) → get_or (c ∷ cs) e (pos 0) ≡ pos 0)
+    later (inl p) z first = inl (omega (arith, lin))
+    later (inr r) z first =
+        let rest = r.0 in
+        inr (omega (arith, lin), λ e. at e)
+      where
+        at : (e : ℕ) → pos 0 <ℤ get_or (u ∷ us) e (pos 0) → get_or (c ∷ cs) e (pos 0) ≡ pos 0
+        at zero p = first p
+        at (suc e) p = r.1 e p
+
+    step : pos 0 <ℤ u ⊎ (pos 0 ≡ u) ⊎ u <ℤ pos 0 → pos 0 <ℤ c ⊎ (pos 0 ≡ c) ⊎ c <ℤ pos 0 → pos 0 <ℤ dot cs us ⊎ (dot cs us ≡ pos 0) × ((e : ℕ) → pos 0 <ℤ get_or us e (pos 0) → get_or cs e (pos 0) ≡ pos 0) → pos 0 <ℤ dot (c ∷ cs) (u ∷ us) ⊎ (dot (c ∷ cs) (u ∷ us) ≡ pos 0) × ((e : ℕ) → pos 0 <ℤ get_or (u ∷ us) e (pos 0) → get_or (c ∷ cs) e (pos 0) ≡ pos 0)
+    step (inl p) (inl q) (inl r) = let m = mul_pos c u q p in inl (omega (arith, lin))
+    step (inl p) (inl q) (inr r) = let m = mul_pos c u q p in let z = r.0 in inl (omega (arith, lin))
+    step (inl p) (inr (inl q)) r = later r (ap (λ z. z *ℤ u) (sym q) ∙ zero-*ℤ u) (λ k. sym q)
+    step (inl p) (inr (inr q)) r = let k = h 0 p in absurd (omega (arith, lin))
+    step (inr (inl p)) w r = later r (ap (λ z. c *ℤ z) (sym p) ∙ *ℤ-zero c) (λ k. absurd (omega (arith, lin)))
+    step (inr (inr p)) w r = let k = nonneg in absurd (omega (arith, lin))
+
 -- ---- the order of lists
 
 -- each number is at most itself
@@ -68,12 +111,23 @@ AreAtMost-at (x ∷ xs) [] h (suc i) = AreAtMost-at xs [] h.1 i
 AreAtMost-at (x ∷ xs) (y ∷ ys) h zero = h.0
 AreAtMost-at (x ∷ xs) (y ∷ ys) h (suc i) = AreAtMost-at xs ys h.1 i
 
+-- numbers at most 0 times others are at most 0
+pub none_above_zero : (xs cs : List ℤ) → AreAtMost xs (scale (pos 0) cs) → All (λ c. c ≤ℤ pos 0) xs
+none_above_zero xs cs h = All-from_get_or (λ c. c ≤ℤ pos 0) xs (pos 0) (λ j l. subst (λ z. get_or xs j (pos 0) ≤ℤ z) (get_or-scale (pos 0) cs j ∙ zero-*ℤ (get_or cs j (pos 0))) (AreAtMost-at xs (scale (pos 0) cs) h j))
+
 -- from the numbers at each place
 pub AreAtMost-from_at : (xs ys : List ℤ) → ((i : ℕ) → get_or xs i (pos 0) ≤ℤ get_or ys i (pos 0)) → AreAtMost xs ys
 AreAtMost-from_at [] [] h = tt
 AreAtMost-from_at [] (y ∷ ys) h = (h 0, AreAtMost-from_at [] ys (λ i. h (suc i)))
 AreAtMost-from_at (x ∷ xs) [] h = (h 0, AreAtMost-from_at xs [] (λ i. h (suc i)))
 AreAtMost-from_at (x ∷ xs) (y ∷ ys) h = (h 0, AreAtMost-from_at xs ys (λ i. h (suc i)))
+
+-- lists of one length compare by the places that they have
+pub AreAtMost-from_places : (xs ys : List ℤ) → length xs ≡ length ys → ((j : ℕ) → j < length xs → get_or xs j (pos 0) ≤ℤ get_or ys j (pos 0)) → AreAtMost xs ys
+AreAtMost-from_places [] [] e h = tt
+AreAtMost-from_places [] (y ∷ ys) e h = absurd (omega arith)
+AreAtMost-from_places (x ∷ xs) [] e h = absurd (omega arith)
+AreAtMost-from_places (x ∷ xs) (y ∷ ys) e h = (h 0 (omega arith), AreAtMost-from_places xs ys (omega arith) (λ j below. h (suc j) (omega arith)))
 
 -- at least 0 is at least the empty list
 pub AreNonNegative-at_most : (xs : List ℤ) → AreNonNegative xs ↔ AreAtMost [] xs
@@ -86,6 +140,22 @@ AreNonNegative-at_most xs = (to xs, from xs)
     from : (xs : List ℤ) → AreAtMost [] xs → AreNonNegative xs
     from [] h = All-nil (λ x. pos 0 ≤ℤ x)
     from (x ∷ xs) h = All-cons (λ x. pos 0 ≤ℤ x) x xs h.0 (from xs h.1)
+
+-- the empty list is at most zeros
+pub AreAtMost-zeros : (n : ℕ) → AreAtMost [] (replicate n (pos 0))
+AreAtMost-zeros zero = tt
+AreAtMost-zeros (suc n) = (≤ℤ_refl (pos 0), AreAtMost-zeros n)
+
+-- zeros added to a list leave it at least as it was
+pub AreAtMost-add_zeros : (n : ℕ) (xs : List ℤ) → AreAtMost xs (add (replicate n (pos 0)) xs)
+AreAtMost-add_zeros zero xs = AreAtMost-refl xs
+AreAtMost-add_zeros (suc n) [] = (≤ℤ_refl (pos 0), AreAtMost-zeros n)
+AreAtMost-add_zeros (suc n) (x ∷ xs) = (omega (arith, lin), AreAtMost-add_zeros n xs)
+
+-- numbers of at most 0 are at most the empty list
+pub AreAtMost-nil : (xs : List ℤ) → All (λ c. c ≤ℤ pos 0) xs → AreAtMost xs []
+AreAtMost-nil [] h = tt
+AreAtMost-nil (x ∷ xs) h = (All-head (λ c. c ≤ℤ pos 0) x xs h, AreAtMost-nil xs (All-tail (λ c. c ≤ℤ pos 0) x xs h))
 
 -- a multiple, by a factor that is not negative
 pub AreAtMost-scale : (c : ℤ) (xs ys : List ℤ) → pos 0 ≤ℤ c → AreAtMost xs ys → AreAtMost (scale c xs) (scale c ys)

@@ -5,12 +5,12 @@ use Rattle.std.proofs.Common.{◌≡◌, ◌⊎◌, inl, inr, ℕ, ◌+◌, ◌<
 use Rattle.integers.specs.Fraction.{SameFractions}
 use Rattle.integers.specs.Lexicographic.{LexLess}
 use Rattle.integers.proofs.LexOrder.{LexLess-cases}
+use Rattle.integers.proofs.OrderTests.{is_le-false, is_le-true}
 use Rattle.lex_simplex.specs.Cells.{row_in}
 use Rattle.lex_simplex.specs.State.{HasProblem}
 use Rattle.lex_simplex.specs.Tableau.{Tableau, TableRow, row_of, entry}
 use Rattle.lex_simplex.specs.Turn.{ratios, comes_before, entering}
 use Rattle.lex_simplex.proofs.ChoiceLemmas.{comes_before-LexLess, entering-is, entering-none}
-use Rattle.lex_simplex.proofs.OrderTests.{is_le-true, is_le-false}
 use Rattle.lex_simplex.proofs.RatioLemmas.{ratios_differ}
 use Rattle.lex_simplex.proofs.Scan.{IsNonePositive, IsNonePositive-more, IsLeastSoFar, IsLeastSoFar-skip, IsLeastSoFar-keep, IsLeastSoFar-take_over, IsEntering-from_least}
 

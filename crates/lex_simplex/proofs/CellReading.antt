@@ -19,6 +19,10 @@ pub length-cells : (columns : List ℕ) (rows : List (List ℤ)) → AreCells co
 length-cells columns [] cells = absurd (omega (arith, cells.some))
 length-cells columns (cost ∷ rows) cells = omega (arith, length-map rows row_in)
 
+-- the cells of a column stand within each row
+pub column_within : (columns : List ℕ) (rows : List (List ℤ)) (i e : ℕ) (cells : List ℤ) → AreCells columns rows → i < length rows → cells ≡ get_or rows i [] → e < length columns → e + 2 < length cells
+column_within columns rows i e cells are h is below = omega (arith, ap length is, are.wide i [] h)
+
 -- the rows that order columns and points
 pub ordering-cells : (columns : List ℕ) (rows : List (List ℤ)) → AreCells columns rows → ordering_rows (tableau_in rows columns) ≡ map row_in (take (length columns + 1) rows)
 ordering-cells columns [] cells = absurd (omega (arith, cells.some))

@@ -2,13 +2,15 @@
 use Rattle.std.proofs.lemmas.List.{length-set}
 use Rattle.std.proofs.lemmas.List.Elements.{All-cons, All-head, All-tail}
 use Rattle.std.proofs.Common.{◌≡◌, ◌↔◌, ℕ, suc, ◌+◌, ◌<◌, length, set, All, List, [], ◌∷◌, ◌++◌, ℤ, pos, ◌-ℤ◌, ◌*ℤ◌, neg_ℤ, refl, sym, ap₂, subst, ◌∙◌, arith}
-use Rattle.frac128.specs.Range.{IsInRange}
 use Rattle.integers.specs.Vector.{scale, row_step}
 use Rattle.integers.proofs.Ring.{con, ◌⊖◌, ◌⊗◌, ◌≗◌, ring3}
+use Rattle.integers.proofs.Lists.{All-parts}
+use Rattle.integers.proofs.VectorLaws.{row_step-set}
+use Rattle.frac128.specs.Range.{IsInRange}
 use Rattle.lex_simplex.specs.Cells.{row_in, prepared, reduced_list, exchanged_by, exchanged, ExchangeFitsBy, ExchangeFits}
 use Rattle.lex_simplex.specs.Tableau.{TableRow, entry}
 use Rattle.lex_simplex.specs.Turn.{row_factor, pivot_factor, stepped_by, numbers_by, step_numbers, reduced, next_row}
-use Rattle.lex_simplex.proofs.CellSteps.{All-parts, StepFits-all, StepFits-set, first_fits, second_fits, row_step-set}
+use Rattle.lex_simplex.proofs.CellSteps.{StepFits-all, StepFits-set, first_fits, second_fits}
 
 -- ---- general
 

@@ -1,38 +1,12 @@
--- Row steps on cells: where each product and difference is in the range, and the number in the pivot column.
+-- Row steps on cells: where each product and difference is in the range.
 use lib.IntN.{*ℤ-zero}
-use Rattle.std.proofs.lemmas.List.Elements.{All-nil, All-cons, All-head, All-tail, All-append}
-use Rattle.std.proofs.Common.{◌≡◌, ◌↔◌, ℕ, zero, suc, ◌<◌, length, set, All, List, [], ◌∷◌, ◌++◌, ℤ, pos, negsuc, ◌-ℤ◌, ◌*ℤ◌, neg_ℤ, refl, sym, ap, subst, arith}
-use Rattle.frac128.specs.Range.{IsInRange}
+use Rattle.std.proofs.lemmas.List.Elements.{All-nil, All-cons, All-head, All-tail}
+use Rattle.std.proofs.Common.{◌≡◌, ◌↔◌, ℕ, zero, suc, ◌<◌, length, set, All, List, [], ◌∷◌, ℤ, pos, ◌-ℤ◌, ◌*ℤ◌, neg_ℤ, refl, sym, subst, arith}
 use Rattle.integers.specs.Vector.{scale, row_step}
 use Rattle.integers.proofs.Ring.{con, neg, ◌⊖◌, ◌⊗◌, ◌≗◌, ring2, ring3}
+use Rattle.frac128.specs.Range.{IsInRange}
+use Rattle.frac128.proofs.Numbers.{in_range-neg, in_range-zero}
 use Rattle.lex_simplex.specs.Cells.{CellFits, StepFits}
-use Rattle.lex_simplex.proofs.ChoiceLemmas.{is_in_range-IsInRange}
-
--- ---- general
-
--- what holds of each element of two lists in a row
-pub All-parts : {A : Type 0} (P : A → Type 0) (xs ys : List A) → All P (xs ++ ys) ↔ (All P xs × All P ys)
-All-parts P [] ys = (λ h. (All-nil P, h), λ h. h.1)
-All-parts P (x ∷ xs) ys = let rest = All-parts P xs ys in (
-  λ h. let parts = rest.0 (All-tail P x (xs ++ ys) h) in (All-cons P x xs (All-head P x (xs ++ ys) h) parts.0, parts.1),
-  λ h. All-append P (x ∷ xs) ys h.0 h.1,
-)
-
--- 0 is in the range
-zero_in_range : IsInRange (pos 0)
-zero_in_range = (is_in_range-IsInRange (pos 0)).0 refl
-
--- a number that is 0 is in the range
-in_range-zero : (z : ℤ) → z ≡ pos 0 → IsInRange z
-in_range-zero z is = subst IsInRange (sym is) zero_in_range
-
--- the range is the same on both sides of 0
-in_range-neg : (z : ℤ) → IsInRange (neg_ℤ z) ↔ IsInRange z
-in_range-neg (pos zero) = (λ h. h, λ h. h)
-in_range-neg (pos (suc n)) = (λ h. h, λ h. h)
-in_range-neg (negsuc n) = (λ h. h, λ h. h)
-
--- ---- row steps
 
 -- a row step of lists of one length fits where all its products and differences do
 pub StepFits-all : (p q : ℤ) (xs ys : List ℤ) → length xs ≡ length ys → StepFits p q xs ys ↔ (All IsInRange (scale p xs) × All IsInRange (scale q ys) × All IsInRange (row_step p q xs ys))
@@ -77,10 +51,3 @@ StepFits-set p q (a ∷ xs) (b ∷ ys) (suc e) x y h k = let rest = StepFits-set
   λ f. let parts = rest.0 f.1 in (parts.0, (f.0, parts.1)),
   λ f. (f.1.0, rest.1 (f.0, f.1.1)),
 )
-
--- the row step with 0 and with a number of the other sign in one place has the number's multiple there
-pub row_step-set : (p q : ℤ) (xs ys : List ℤ) (e : ℕ) (y : ℤ) → length xs ≡ length ys → e < length xs → row_step p q (set xs e (pos 0)) (set ys e (neg_ℤ y)) ≡ set (row_step p q xs ys) e (q *ℤ y)
-row_step-set p q [] ys e y same h = absurd (omega arith)
-row_step-set p q (a ∷ xs) [] e y same h = absurd (omega arith)
-row_step-set p q (a ∷ xs) (b ∷ ys) zero y same h = ap (λ z. z ∷ row_step p q xs ys) (ring3 (λ p q y. p ⊗ con (pos 0) ⊖ q ⊗ neg y ≗ q ⊗ y) refl p q y)
-row_step-set p q (a ∷ xs) (b ∷ ys) (suc e) y same h = ap (λ zs. (p *ℤ a -ℤ q *ℤ b) ∷ zs) (row_step-set p q xs ys e y (omega arith) (omega arith))

@@ -1,26 +1,18 @@
 -- The pivot on a tableau's cells is the pivot on the tableau.
-use Rattle.std.proofs.lemmas.List.{get_or-map, length-drop, length-map, length-set}
+use Rattle.std.proofs.lemmas.List.{length-drop, length-map, length-set}
 use Rattle.std.proofs.lemmas.List.Elements.{All-nil, All-cons, All-head, All-tail, All-map}
-use Rattle.std.proofs.Common.{◌≡◌, ◌↔◌, ℕ, ◌+◌, ◌<◌, length, get_or, map, set, All, List, [], ◌∷◌, ℤ, pos, neg_ℤ, ◌<ℤ◌, int_div, refl, sym, ap, ap₂, subst, ◌∙◌, arith}
+use Rattle.std.proofs.Common.{◌≡◌, ◌↔◌, ℕ, ◌+◌, ◌<◌, length, get_or, map, set, All, List, [], ◌∷◌, ℤ, pos, neg_ℤ, ◌<ℤ◌, refl, sym, ap, ap₂, subst, ◌∙◌, arith}
 use Rattle.std.specs.Prelude.{flat_map}
+use Rattle.integers.proofs.Lists.{All-get_or_map, All-parts}
 use Rattle.frac128.specs.Problem.{ProblemData}
 use Rattle.frac128.specs.Range.{IsInRange}
-use Rattle.integers.specs.Divisibility.{divisor_of_all}
-use Rattle.integers.specs.Vector.{row_step}
-use Rattle.integers.proofs.VectorLaws.{length-row_step}
 use Rattle.lex_simplex.specs.Cells.{AreCells, CanExchange, ExchangesFit, exchanged, prepared, row_in, tableau_in}
 use Rattle.lex_simplex.specs.Equations.{IsTableRow, IsTableauOf}
 use Rattle.lex_simplex.specs.Tableau.{TableRow, entry, row_of}
-use Rattle.lex_simplex.specs.Turn.{next_row, pivot_numbers, pivoted, shared, step_numbers}
+use Rattle.lex_simplex.specs.Turn.{next_row, pivot_numbers, pivoted, step_numbers}
 use Rattle.lex_simplex.proofs.CellReading.{length-cells, row_of-cells}
 use Rattle.lex_simplex.proofs.CellRows.{ExchangeFits-row, exchanged-row}
-use Rattle.lex_simplex.proofs.CellSteps.{All-parts}
-
--- ---- general
-
--- what holds of all that a list is made into holds of what one element is made into
-All-get_or_map : {A B : Type 0} (P : B → Type 0) (f : A → B) (xs : List A) (i : ℕ) (d : A) → i < length xs → All P (map f xs) → P (f (get_or xs i d))
-All-get_or_map P f xs i d h all = subst P (get_or-map f xs i d (f d) h) (all i (f d) (omega (arith, length-map xs f)))
+use Rattle.lex_simplex.proofs.ExchangeLemmas.{length-exchanged}
 
 -- ---- a list of rows
 
@@ -73,14 +65,11 @@ exchanged-table columns (cost ∷ rows) r e cells h k =
     let below : e < length pivot.coefs = omega (arith, pivot_width columns (cost ∷ rows) r cells h) in
     ap₂ (λ first rest. record { cost = first; rows = rest; columns = set columns e r }) (exchanged-row pivot e cost (All-head same cost rows wide) below) (exchanged-rows pivot e rows (All-tail same cost rows wide) below)
 
--- the pivot keeps the length of a row's cells
-length-exchanged_row : (pivot : TableRow) (e : ℕ) (row : List ℤ) → length row ≡ length pivot.coefs + 2 → length (exchanged (entry pivot e) (e + 2) (prepared pivot e) row) ≡ length row
-length-exchanged_row pivot e row same =
-    let own : ℤ = get_or row (e + 2) (pos 0) in
-    let p : ℤ = int_div (entry pivot e) (shared (entry pivot e) own) in
-    let q : ℤ = int_div own (shared (entry pivot e) own) in
-    let step : List ℤ = row_step p q (set row (e + 2) (pos 0)) (prepared pivot e) in
-    length-map step (λ x. int_div x (pos (divisor_of_all step))) ∙ omega (arith, length-row_step p q (set row (e + 2) (pos 0)) (prepared pivot e), length-set row (e + 2) (pos 0), length-set pivot.coefs e (neg_ℤ pivot.den), same)
+-- each row is as long as the prepared cells of the pivot row
+long_as_prepared : (columns : List ℕ) (rows : List (List ℤ)) (r e : ℕ) → AreCells columns rows → r < length (tableau_in rows columns).rows → All (λ (row : List ℤ). length row ≡ length (prepared (row_of (tableau_in rows columns) r) e)) rows
+long_as_prepared columns rows r e cells h i d below =
+    let pivot : TableRow = row_of (tableau_in rows columns) r in
+    omega (arith, wide_as_pivot columns rows r cells h i d below, length-set pivot.coefs e (neg_ℤ pivot.den))
 
 -- after the pivot they are a tableau's cells again
 pub AreCells-exchanged : (columns : List ℕ) (rows : List (List ℤ)) (r e : ℕ) → AreCells columns rows → r < length (tableau_in rows columns).rows → e < length columns → AreCells (set columns e r) (map (exchanged (entry (row_of (tableau_in rows columns) r) e) (e + 2) (prepared (row_of (tableau_in rows columns) r) e)) rows)
@@ -89,7 +78,7 @@ AreCells-exchanged columns rows r e cells h k =
     let change : List ℤ → List ℤ = exchanged (entry pivot e) (e + 2) (prepared pivot e) in
     record {
       some = omega (arith, length-map rows change, cells.some);
-      wide = All-map (λ (row : List ℤ). length row ≡ length (set columns e r) + 2) change rows (λ i d below. omega (arith, length-exchanged_row pivot e (get_or rows i d) (wide_as_pivot columns rows r cells h i d below), length-set columns e r, cells.wide i d below));
+      wide = All-map (λ (row : List ℤ). length row ≡ length (set columns e r) + 2) change rows (λ i d below. omega (arith, length-exchanged (entry pivot e) (e + 2) (prepared pivot e) (get_or rows i d) (long_as_prepared columns rows r e cells h i d below), length-set columns e r, cells.wide i d below));
     }
 
 -- ---- what a pivot needs
@@ -104,7 +93,7 @@ pub can_exchange : (p : ProblemData) (columns : List ℕ) (rows : List (List ℤ
 can_exchange p columns rows r e cells is h k positive i d below =
     let pivot : TableRow = row_of (tableau_in rows columns) r in
     record {
-      same_length = omega (arith, wide_as_pivot columns rows r cells h i d below, length-set pivot.coefs e (neg_ℤ pivot.den));
+      same_length = long_as_prepared columns rows r e cells h i d below;
       behind_den = omega arith;
       within = omega (arith, cells.wide i d below);
       number_pos = positive;

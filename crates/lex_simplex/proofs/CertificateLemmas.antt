@@ -7,14 +7,16 @@ use Rattle.std.proofs.lemmas.Bool.Decides.{Decides-int_eq}
 use Rattle.std.proofs.lemmas.List.{take_at, drop_at, get_or-set_other}
 use Rattle.std.proofs.lemmas.List.Elements.{All-nil, All-cons, All-head, All-tail, All-map, All-weaker, All-drop, All-take, All-set, All-get_or}
 use Rattle.std.proofs.lemmas.List.Kept.{AllPairs-cons}
-use Rattle.integers.specs.Vector.{dot, scale, unit_vector, column_of, AreNonNegative, AreAtMost}
+use Rattle.integers.specs.Vector.{dot, scale, unit_vector, AreNonNegative, AreAtMost}
 use Rattle.integers.proofs.Laws.{lin}
 use Rattle.integers.proofs.Ring.{con, neg, ◌⊕◌, ◌⊖◌, ◌⊗◌, ◌≗◌, ◌✶◌, ◌⇐◌, ring3, combine3, combine5}
 use Rattle.integers.proofs.Vector.{dot-nil, dot_comm, dot-set, dot-zeros, dot-unit_vector, length-unit_vector}
 use Rattle.integers.proofs.VectorLaws.{dot-split}
+use Rattle.integers.proofs.Lists.{AllPairs-head, AllPairs-tail}
+use Rattle.integers.proofs.Zeros.{get_or-zeros}
 use Rattle.frac128.specs.Problem.{ProblemData, IsProblem, AreEntries, row_at, multipliers, rows_on, combination}
 use Rattle.frac128.specs.declared.problem.Row.{Row}
-use Rattle.frac128.proofs.Combination.{get_or-zeros, get_or-combination, below_cost-from_places}
+use Rattle.frac128.proofs.Combination.{get_or-combination, below_cost-from_places, column_of-map}
 use Rattle.lex_simplex.specs.Answer.{spread, entries_from, row_entries}
 use Rattle.lex_simplex.specs.Equations.{surplus, quantities, in_columns}
 
@@ -75,11 +77,6 @@ entries_sum f rows i (w ∷ ws) (r ∷ rest) l h =
     let here : row_at rows i ≡ r = subst (λ j. row_at rows j ≡ r) (omega arith) (h 0) in
     let ih = entries_sum f rows (suc i) ws rest (omega arith) (λ j. subst (λ k. row_at rows k ≡ row_at rest j) (omega arith) (h (suc j))) in
     entries_cases (λ on. dot (multipliers on) (map f (rows_on rows on)) ≡ dot (w ∷ ws) (map f (r ∷ rest))) i w ws (λ z. let e : w *ℤ f r ≡ pos 0 = ap (λ a. a *ℤ f r) z ∙ zero-*ℤ (f r) in omega (arith, lin)) (ap₂ (λ a b. w *ℤ a +ℤ b) (ap f here) ih)
-
--- the numbers at a place of each row
-column_of-map : (j : ℕ) (rows : List Row) → column_of j (map (λ (r : Row). r.coefs) rows) ≡ map (λ (r : Row). get_or r.coefs j (pos 0)) rows
-column_of-map j [] = refl
-column_of-map j (r ∷ rows) = ap (λ zs. get_or r.coefs j (pos 0) ∷ zs) (column_of-map j rows)
 
 -- the weights' product with the quantities, apart for the variables and the rows
 product_apart : (p : ProblemData) (w x : List ℤ) (n : ℤ) → length x ≡ p.vars → dot w (quantities p x n) ≡ dot (take p.vars w) x +ℤ dot (drop p.vars w) (map (surplus x n) p.rows)
@@ -147,14 +144,6 @@ pub get_or-spread_other : (cs : List ℕ) (ys ws : List ℤ) (r : ℕ) → All (
 get_or-spread_other [] ys ws r h = refl
 get_or-spread_other (c ∷ cs) [] ws r h = refl
 get_or-spread_other (c ∷ cs) (y ∷ ys) ws r h = get_or-spread_other cs ys (set ws c y) r (All-tail (λ c. r ≢ c) c cs h) ∙ get_or-set_other ws c r y (pos 0) (All-head (λ c. r ≢ c) c cs h)
-
--- what holds of each pair holds of those of the rest
-AllPairs-tail : (R : ℕ → ℕ → Type 0) (x : ℕ) (xs : List ℕ) → AllPairs R (x ∷ xs) → AllPairs R xs
-AllPairs-tail R x xs h = λ i j d p q. h (suc i) (suc j) d (omega arith) (omega arith)
-
--- and of the first with each
-AllPairs-head : (R : ℕ → ℕ → Type 0) (x : ℕ) (xs : List ℕ) → AllPairs R (x ∷ xs) → All (R x) xs
-AllPairs-head R x xs h = λ j d q. h 0 (suc j) d (omega arith) (omega arith)
 
 -- weights at distinct places that were 0: their product with the quantities
 spread_onto : (cs : List ℕ) (ys ws qs : List ℤ) → AllPairs (λ a b. a ≢ b) cs → All (λ c. c < length ws) cs → All (λ c. get_or ws c (pos 0) ≡ pos 0) cs → dot (spread cs ys ws) qs ≡ dot ws qs +ℤ dot ys (in_columns cs qs)

@@ -8,16 +8,18 @@ use Rattle.std.proofs.lemmas.Int.{ints, by_lt_z}
 use Rattle.std.proofs.lemmas.List.Elements.{All-weaker}
 use Rattle.std.proofs.lemmas.List.Quantifiers.{position-Some}
 use Rattle.std.proofs.Common.{◌≡◌, ◌≢◌, ◌⊎◌, inl, inr, ◌↔◌, ℕ, ◌^◌, ◌<◌, length, Bool, true, false, not, ◌||◌, nat_eq, int_lt, Decides, IsTrue, List, [], ◌∷◌, ℤ, pos, ◌*ℤ◌, ◌≤ℤ◌, ◌<ℤ◌, All, Some, None, Ordering, Less, Equal, Greater, unsigned_abs, refl, sym, arith}
-use Rattle.frac128.specs.Range.{IsInRange}
 use Rattle.integers.specs.Counting.{numbers_from}
 use Rattle.integers.specs.Fraction.{Fraction, SameFraction, FractionLess, AreFractions}
 use Rattle.integers.specs.Lexicographic.{LexLess}
 use Rattle.integers.proofs.Fractions.{AreFractions-over}
 use Rattle.integers.proofs.LexOrder.{LexLess_asym}
+use Rattle.integers.proofs.Lists.{position-is, position-none}
+use Rattle.integers.proofs.Numbers.{Decides-numbers, find-numbers_is, find-numbers_none, find-numbers_some}
+use Rattle.integers.proofs.OrderTests.{int_lt-Decides, int_lt-false}
+use Rattle.frac128.specs.Range.{IsInRange}
 use Rattle.lex_simplex.specs.Pivot.{IsLeaving, IsEntering}
 use Rattle.lex_simplex.specs.Tableau.{Tableau, TableRow, row_of, entry, column}
 use Rattle.lex_simplex.specs.Turn.{leaving, entering, is_entering, ratios, comes_before, is_in_range}
-use Rattle.lex_simplex.proofs.FirstLemmas.{position-is, position-none, Decides-numbers, find-numbers_some, find-numbers_is, find-numbers_none}
 
 -- ---- the tests
 
@@ -40,14 +42,6 @@ is_in_range-IsInRange z = Decides-ltb (unsigned_abs z) (2 ^ 127)
 -- the test of each number's range
 pub in_range-test : (zs : List ℤ) → IsTrue (list_all is_in_range zs) ↔ All IsInRange zs
 in_range-test zs = Decides-by_and is_in_range IsInRange (list_all is_in_range) is_in_range-IsInRange refl (λ _ _. refl) zs
-
--- the test of order of two numbers
-int_lt-Decides : (a b : ℤ) → Decides (int_lt a b) (a <ℤ b)
-int_lt-Decides a b = (λ e. omega (arith, ints), λ h. grind (arith, ints))
-
--- the test fails exactly where the order is the other one
-int_lt-false : (a b : ℤ) → (int_lt a b ≡ false) ↔ (b ≤ℤ a)
-int_lt-false a b = (λ e. omega (arith, ints), λ h. grind (arith, ints))
 
 -- ---- the pivot row
 

@@ -4,24 +4,26 @@ use Rattle.std.specs.List.Sorted.{IsStrictlyIncreasing}
 use Rattle.std.specs.Prelude.{nat_eq}
 use Rattle.std.proofs.lemmas.List.Elements.{All-filter, All-replicate, All-contains, All-contains_itself}
 use Rattle.std.proofs.lemmas.List.Kept.{AllPairs-from_increasing, IsStrictlyIncreasing-filter}
-use Rattle.std.proofs.Common.{◌≡◌, ◌≢◌, ◌↔◌, ℕ, ◌<◌, length, get_or, take, map, List, All, AllPairs, Contains, ℤ, pos, subst, refl, sym, ◌∙◌, arith}
-use Rattle.frac128.specs.Problem.{ProblemData}
+use Rattle.std.proofs.Common.{◌≡◌, ◌≢◌, ◌↔◌, ℕ, ◌<◌, length, get_or, take, map, List, All, AllPairs, Contains, ℤ, pos, subst, refl, sym, ◌∙◌, arith, eqb-true}
+use Rattle.std.proofs.lemmas.Map.Views.{Contains-from_any, list_any-from_Contains}
+use Rattle.std.proofs.lemmas.Cmp.{nat_eq_equiv}
 use Rattle.integers.specs.Counting.{numbers_from}
+use Rattle.integers.specs.Fraction.{SameFractions}
+use Rattle.integers.specs.Vector.{dot, AreZero}
 use Rattle.integers.proofs.Counting.{distinct_at_most}
+use Rattle.integers.proofs.Lists.{Contains-filter, Contains-from_filter}
+use Rattle.integers.proofs.Numbers.{Contains-numbers_from, IsStrictlyIncreasing-numbers_from, numbers_from-below}
+use Rattle.frac128.specs.Problem.{ProblemData}
 use Rattle.lex_simplex.specs.Columns.{column_set}
 use Rattle.lex_simplex.specs.Equations.{IsTableauOf, quantities, in_columns}
 use Rattle.lex_simplex.specs.Tableau.{Tableau, value_of, values}
-use Rattle.lex_simplex.proofs.BasicPoint.{basic, columns_distinct}
-use Rattle.lex_simplex.proofs.BasicValues.{AreZero-in_columns, Holds-same, AllHold-same}
-use Rattle.integers.specs.Fraction.{SameFractions}
-use Rattle.integers.specs.Vector.{dot, AreZero}
-use Rattle.lex_simplex.proofs.SetLemmas.{IsStrictlyIncreasing-numbers_from, numbers_from-below, Contains-numbers_from, Contains-filter, Contains-from_filter, list_any-Contains}
+use Rattle.lex_simplex.proofs.BasicPoint.{basic, columns_distinct, AllHold-same, AreZero-in_columns, Holds-same}
 
 -- the set has the quantities of the columns
 pub column_set-Contains : (p : ProblemData) (t : Tableau) → IsTableauOf p t → (q : ℕ) → Contains (column_set t) q ↔ Contains t.columns q
 column_set-Contains p t ok q = (
-  λ c. (list_any-Contains t.columns q).0 (Contains-from_filter (λ q. list_any (nat_eq q) t.columns) (numbers_from 0 (length t.rows)) q c).1,
-  λ c. Contains-filter (λ q. list_any (nat_eq q) t.columns) (numbers_from 0 (length t.rows)) q (Contains-numbers_from 0 (length t.rows) q (omega arith) (let l = All-contains (λ c. c < length t.rows) t.columns q ok.columns_below c in omega arith)) ((list_any-Contains t.columns q).1 c),
+  λ c. Contains-from_any eqb-true q t.columns (Contains-from_filter (λ q. list_any (nat_eq q) t.columns) (numbers_from 0 (length t.rows)) q c).1,
+  λ c. Contains-filter (λ q. list_any (nat_eq q) t.columns) (numbers_from 0 (length t.rows)) q (Contains-numbers_from 0 (length t.rows) q (omega arith) (let l = All-contains (λ c. c < length t.rows) t.columns q ok.columns_below c in omega arith)) (list_any-from_Contains nat_eq_equiv q t.columns c),
 )
 
 -- its quantities rise

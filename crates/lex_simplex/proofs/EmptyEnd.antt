@@ -1,38 +1,24 @@
 -- The end of a run at a row with a negative constant and no positive number: no point meets the problem, and the row shows it.
-use lib.IntN.{zero-*ℤ}
 use lib.ListN.{length-replicate, length-set}
 use Rattle.std.proofs.Common.{◌≡◌, ◌≢◌, ℕ, ◌+◌, ◌<◌, length, get_or, set, replicate, List, [], ◌∷◌, All, ℤ, pos, negsuc, ◌+ℤ◌, ◌-ℤ◌, ◌*ℤ◌, neg_ℤ, ◌≤ℤ◌, ◌<ℤ◌, refl, sym, ap, subst, ◌∙◌, arith}
 use Rattle.std.specs.Int.Signed.{≤ℤ_refl}
-use Rattle.std.proofs.lemmas.List.Elements.{All-from_get_or, All-replicate, All-set, All-get_or}
-use Rattle.integers.specs.Vector.{dot, scale, AreNonNegative, AreAtMost}
+use Rattle.std.proofs.lemmas.List.Elements.{All-from_get_or, All-replicate, All-set}
+use Rattle.integers.specs.Vector.{dot, scale, AreNonNegative}
 use Rattle.integers.proofs.Laws.{lin}
 use Rattle.integers.proofs.Order.{le_of_lt}
-use Rattle.integers.proofs.Ring.{con, neg, ◌⊕◌, ◌⊖◌, ◌⊗◌, ◌≗◌, ◌✶◌, ◌⇐◌, ring1, combine9}
+use Rattle.integers.proofs.Ring.{con, neg, ◌⊕◌, ◌⊖◌, ◌⊗◌, ◌≗◌, ◌✶◌, ◌⇐◌, combine9}
 use Rattle.integers.proofs.Vector.{dot-set, dot-scale}
-use Rattle.integers.proofs.VectorLaws.{get_or-scale}
-use Rattle.integers.proofs.VectorOrder.{AreAtMost-at}
+use Rattle.integers.proofs.VectorOrder.{none_above_zero, opposites_nonneg}
+use Rattle.integers.proofs.Zeros.{get_or-zeros}
 use Rattle.frac128.specs.Problem.{ProblemData, IsProblem, IsInfeasible, AreEntries, combination, IsFarkasCertificate}
 use Rattle.frac128.specs.declared.problem.Cert.{Cert}
-use Rattle.frac128.proofs.Combination.{get_or-zeros}
 use Rattle.frac128.proofs.ProblemLaws.{farkas_certificate_refutes}
 use Rattle.lex_simplex.specs.Answer.{spread, row_entries, empty_weights}
 use Rattle.lex_simplex.specs.Tableau.{TableRow, Tableau, row_of, entry}
 use Rattle.lex_simplex.specs.Equations.{quantities, in_columns, IsTableRow, IsTableauOf}
-use Rattle.lex_simplex.proofs.BasicPoint.{AllHold-at, columns_distinct, column_constant}
+use Rattle.lex_simplex.proofs.BasicPoint.{columns_distinct, column_constant}
 use Rattle.lex_simplex.proofs.CertificateLemmas.{entries_of_weights, bound_of_weights, coefs_of_weights, length-spread, spread_nonneg, get_or-spread_other, dot-spread}
-
--- ---- general
-
--- the opposites of numbers that are not positive are not negative
-opposites_nonneg : (xs : List ℤ) → ((f : ℕ) → get_or xs f (pos 0) ≤ℤ pos 0) → AreNonNegative (scale (negsuc 0) xs)
-opposites_nonneg xs h = All-from_get_or (λ x. pos 0 ≤ℤ x) (scale (negsuc 0) xs) (pos 0) (λ f l. let e = get_or-scale (negsuc 0) xs f in let k = h f in omega (arith, lin, minus (get_or xs f (pos 0))))
-  where
-    minus : (x : ℤ) → negsuc 0 *ℤ x ≡ neg_ℤ x
-    minus x = ring1 (λ x. con (negsuc 0) ⊗ x ≗ neg x) refl x
-
--- numbers at most 0 times others are at most 0
-none_above_zero : (xs cs : List ℤ) → AreAtMost xs (scale (pos 0) cs) → All (λ c. c ≤ℤ pos 0) xs
-none_above_zero xs cs h = All-from_get_or (λ c. c ≤ℤ pos 0) xs (pos 0) (λ j l. subst (λ z. get_or xs j (pos 0) ≤ℤ z) (get_or-scale (pos 0) cs j ∙ zero-*ℤ (get_or cs j (pos 0))) (AreAtMost-at xs (scale (pos 0) cs) h j))
+use Rattle.lex_simplex.proofs.TableauRows.{row_of-fits, row_of-holds}
 
 -- ---- the weights
 
@@ -49,7 +35,7 @@ length-column_weights : (p : ProblemData) (t : Tableau) (r : ℕ) → IsTableauO
 length-column_weights p t r h = length-spread t.columns (scale (negsuc 0) (row_of t r).coefs) (replicate (length t.rows) (pos 0)) ∙ length-replicate (length t.rows) (pos 0)
 
 -- so are the weights with the row's own
-empty_weights-length : (p : ProblemData) (t : Tableau) (r : ℕ) → IsTableauOf p t → length (empty_weights t r) ≡ p.vars + length p.rows
+pub empty_weights-length : (p : ProblemData) (t : Tableau) (r : ℕ) → IsTableauOf p t → length (empty_weights t r) ≡ p.vars + length p.rows
 empty_weights-length p t r h = length-set (column_weights t r) r (row_of t r).den ∙ length-column_weights p t r h ∙ h.one_row_each
 
 -- with these weights the quantities sum to the row's constant
@@ -63,7 +49,7 @@ empty_weights-sum p t r h below negative x n l =
     let own : get_or ws r (pos 0) ≡ pos 0 = get_or-spread_other t.columns (scale (negsuc 0) row.coefs) (replicate (length t.rows) (pos 0)) r (no_column p t r h negative) ∙ get_or-zeros (length t.rows) r in
     let apart : dot (set ws r row.den) qs ≡ dot ws qs +ℤ (row.den -ℤ get_or ws r (pos 0)) *ℤ get_or qs r (pos 0) = dot-set ws qs r row.den inside in
     let columns : dot ws qs ≡ negsuc 0 *ℤ dot row.coefs us = dot-spread t.columns (scale (negsuc 0) row.coefs) (length t.rows) qs (columns_distinct p t h) h.columns_below ∙ dot-scale (negsuc 0) row.coefs us in
-    let holds : row.den *ℤ get_or qs r (pos 0) ≡ row.constant *ℤ n +ℤ dot row.coefs us = AllHold-at qs us n t.rows r (record { den = pos 1; constant = pos 0; coefs = [] }) (h.rows_hold x n l) below in
+    let holds : row.den *ℤ get_or qs r (pos 0) ≡ row.constant *ℤ n +ℤ dot row.coefs us = row_of-holds p t r h below x n l in
     combine9 (λ s w D o q e C n c. s ≗ con (pos 0) ⊗ c ⊖ neg C ⊗ n ⇐ con (pos 1) ✶ (s ≗ w ⊕ (D ⊖ o) ⊗ q) ∷ con (pos 1) ✶ (w ≗ con (negsuc 0) ⊗ e) ∷ con (pos 1) ✶ (D ⊗ q ≗ C ⊗ n ⊕ e) ∷ neg q ✶ (o ≗ con (pos 0)) ∷ []) refl (dot (set ws r row.den) qs) (dot ws qs) row.den (get_or ws r (pos 0)) (get_or qs r (pos 0)) (dot row.coefs us) row.constant n (dot p.cost x) apart columns holds own
 
 -- the weights are not negative where no number of the row is positive
@@ -71,7 +57,7 @@ empty_weights_nonneg : (p : ProblemData) (t : Tableau) (r : ℕ) → IsTableauOf
 empty_weights_nonneg p t r h below most =
     let row : TableRow = row_of t r in
     let zeros : AreNonNegative (replicate (length t.rows) (pos 0)) = All-replicate (λ x. pos 0 ≤ℤ x) (length t.rows) (pos 0) (≤ℤ_refl (pos 0)) in
-    let fits : IsTableRow p.vars row = All-get_or (IsTableRow p.vars) t.rows r (record { den = pos 1; constant = pos 0; coefs = [] }) below h.rows_fit in
+    let fits : IsTableRow p.vars row = row_of-fits p t r h below in
     All-set (λ x. pos 0 ≤ℤ x) (spread t.columns (scale (negsuc 0) row.coefs) (replicate (length t.rows) (pos 0))) r row.den (le_of_lt (pos 0) row.den fits.den_pos) (spread_nonneg t.columns (scale (negsuc 0) row.coefs) (replicate (length t.rows) (pos 0)) (opposites_nonneg row.coefs most) zeros)
 
 -- ---- the certificate

@@ -12,6 +12,7 @@ use Rattle.lex_simplex.specs.Turn.{entering, turn, ended}
 use Rattle.lex_simplex.proofs.ChoiceLemmas.{entering-is}
 use Rattle.lex_simplex.proofs.Scan.{IsLeastSoFar, IsNonePositive, IsEntering-from_least, least_or_none}
 use Rattle.lex_simplex.proofs.TurnLemmas.{turn_empty_row}
+use Rattle.lex_simplex.proofs.TableauRows.{row_of-fits}
 
 -- a row has a pivot column, or none of its numbers is positive
 pub entering_or_none : (p : ProblemData) (t : Tableau) (r : ℕ) → IsTableauOf p t → r < length t.rows → ((e : ℕ) × IsEntering t r e) ⊎ ((f : ℕ) → f < length t.columns → entry (row_of t r) f ≤ℤ pos 0)
@@ -26,7 +27,7 @@ pub no_entering : (p : ProblemData) (t : Tableau) (r : ℕ) → IsTableauOf p t 
 no_entering p t r ok rb none f = step (entering_or_none p t r ok rb) (cases_lt f (length t.columns))
   where
     fits : IsTableRow p.vars (row_of t r)
-    fits = ok.rows_fit r _ rb
+    fits = row_of-fits p t r ok rb
 
     step : ((e : ℕ) × IsEntering t r e) ⊎ ((f : ℕ) → f < length t.columns → entry (row_of t r) f ≤ℤ pos 0) → (f < length t.columns) ⊎ (length t.columns ≤ f) → entry (row_of t r) f ≤ℤ pos 0
     step (inl s) c = let found = sym none ∙ entering-is t r s.0 s.1 in absurd (cc found)

@@ -5,10 +5,6 @@ use Rattle.std.proofs.lemmas.List.{length-take, length-drop, take-append-drop, d
 use Rattle.std.proofs.Common.{◌≡◌, ℕ, zero, suc, ◌+◌, ◌*◌, ◌<◌, ◌≤◌, length, get_or, set, take, drop, List, [], ◌∷◌, ◌++◌, refl, sym, ap, ap₂, subst, ◌∙◌, arith}
 use Rattle.lex_simplex.specs.Cells.{rows_in, with_part}
 
--- a part after another
-drop_more : {A : Type 0} (m n : ℕ) (xs : List A) → drop m (drop n xs) ≡ drop (m + n) xs
-drop_more m n xs = drop-drop m n xs ∙ ap (λ k. drop k xs) (omega arith)
-
 -- as many rows as counted
 pub length-rows_in : {A : Type 0} (width count : ℕ) (xs : List A) → length (rows_in width count xs) ≡ count
 length-rows_in width zero xs = refl
@@ -18,7 +14,7 @@ length-rows_in width (suc count) xs = ap suc (length-rows_in width count (drop w
 pub get_or-rows_in : {A : Type 0} (width count : ℕ) (xs : List A) (i : ℕ) → i < count → get_or (rows_in width count xs) i [] ≡ take width (drop (i * width) xs)
 get_or-rows_in width zero xs i h = absurd (omega arith)
 get_or-rows_in width (suc count) xs zero h = ap (λ n. take width (drop n xs)) (sym (zero-mul width))
-get_or-rows_in width (suc count) xs (suc i) h = get_or-rows_in width count (drop width xs) i (omega arith) ∙ ap (take width) (drop_more (i * width) width xs ∙ ap (λ n. drop n xs) (sym (suc-mul i width)))
+get_or-rows_in width (suc count) xs (suc i) h = get_or-rows_in width count (drop width xs) i (omega arith) ∙ ap (take width) (drop-drop (i * width) width xs ∙ ap (λ n. drop n xs) (omega (arith, suc-mul i width)))
 
 -- the list has room for a row of each place
 pub row_within : (width count i : ℕ) → i < count → i * width + width ≤ count * width
@@ -60,7 +56,7 @@ rows_in-with_part width (suc count) xs (suc i) ys h e l =
     first = ap₂ (λ n zs. take n zs) (omega (arith, front)) (sym halves) ∙ take-append-add (take width xs) (drop width xs) (i * width)
 
     last : drop (i * width + width + length ys) xs ≡ drop (i * width + length ys) (drop width xs)
-    last = sym (drop_more (i * width + length ys) width xs ∙ ap (λ k. drop k xs) (omega arith))
+    last = sym (drop-drop (i * width + length ys) width xs ∙ ap (λ k. drop k xs) (omega arith))
 
     parts : with_part xs (i * width + width) ys ≡ take width xs ++ with_part (drop width xs) (i * width) ys
     parts =

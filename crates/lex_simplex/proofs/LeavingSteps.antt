@@ -1,15 +1,15 @@
 -- The walk over the quantities' rows for the pivot row.
 use Rattle.std.proofs.Common.{◌≡◌, ℕ, ◌+◌, ◌-◌, ◌<◌, ◌≤◌, length, get_or, List, [], ℤ, pos, ◌≤ℤ◌, ◌<ℤ◌, Some, None, sym, ap, subst, ◌∙◌, arith, below_more}
+use Rattle.std.proofs.lemmas.List.{get_or_default}
 use Rattle.lex_simplex.specs.Cells.{AreCells, row_in, tableau_in}
 use Rattle.lex_simplex.specs.Tableau.{Tableau, TableRow, row_of}
 use Rattle.lex_simplex.specs.Turn.{leaving}
 use Rattle.lex_simplex.proofs.CellReading.{length-cells}
 use Rattle.lex_simplex.proofs.ChoiceLemmas.{leaving-some, leaving-none}
-use Rattle.lex_simplex.proofs.RowLists.{get_or-default}
 
 -- the constant of a row, read from its cells
 pub constant_read : (row : TableRow) (cells : List ℤ) (x : ℤ) (n : ℕ) → length cells ≡ n + 2 → row_in cells ≡ row → x ≡ get_or cells 1 x → row.constant ≡ x
-constant_read row cells x n wide is read = ap (λ (r : TableRow). r.constant) (sym is) ∙ sym (read ∙ get_or-default cells 1 x (pos 0) (omega arith))
+constant_read row cells x n wide is read = ap (λ (r : TableRow). r.constant) (sym is) ∙ sym (read ∙ get_or_default cells 1 x (pos 0) (omega arith))
 
 -- a quantity is within the rows where its place is before the last row's
 pub quantity_within : (columns : List ℕ) (rows : List (List ℤ)) (i n : ℕ) → AreCells columns rows → n ≡ length rows → i < n - 1 → i < length (tableau_in rows columns).rows
@@ -26,4 +26,4 @@ leaving_more t r x is positive first = below_more (λ k. pos 0 ≤ℤ (row_of t 
 -- no negative constant in any row
 pub leaving_missed : (columns : List ℕ) (rows : List (List ℤ)) (i n : ℕ) → AreCells columns rows → n ≡ length rows → n - 1 ≤ i → ((k : ℕ) → k < i → pos 0 ≤ℤ (row_of (tableau_in rows columns) k).constant) → None ≡ leaving (tableau_in rows columns)
 leaving_missed columns rows i n cells e h first =
-    sym ((leaving-none (tableau_in rows columns)).1 (λ k d below. subst (λ (row : TableRow). pos 0 ≤ℤ row.constant) (get_or-default (tableau_in rows columns).rows k (record { den = pos 1; constant = pos 0; coefs = [] }) d below) (first k (omega (arith, length-cells columns rows cells)))))
+    sym ((leaving-none (tableau_in rows columns)).1 (λ k d below. subst (λ (row : TableRow). pos 0 ≤ℤ row.constant) (get_or_default (tableau_in rows columns).rows k (record { den = pos 1; constant = pos 0; coefs = [] }) d below) (first k (omega (arith, length-cells columns rows cells)))))

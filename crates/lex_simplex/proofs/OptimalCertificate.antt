@@ -1,13 +1,12 @@
 -- The certificate of an optimum: the cost row's numbers are multipliers of the rows that bound the cost.
 use lib.ListN.{length-replicate}
-use Rattle.std.proofs.Common.{◌≡◌, inl, inr, ℕ, ◌+◌, ◌<◌, length, replicate, List, ◌∷◌, map, take, ℤ, pos, ◌-ℤ◌, ◌*ℤ◌, ◌≤ℤ◌, ◌<ℤ◌, sym, ap, subst, subst₂, ◌∙◌, arith}
+use Rattle.std.proofs.Common.{◌≡◌, ℕ, ◌+◌, ◌<◌, length, replicate, List, map, take, ℤ, pos, ◌-ℤ◌, ◌*ℤ◌, ◌≤ℤ◌, ◌<ℤ◌, sym, ap, subst, subst₂, ◌∙◌, arith}
 use Rattle.std.specs.Int.Signed.{≤ℤ_refl}
 use Rattle.std.proofs.lemmas.List.Elements.{All-from_get_or, All-replicate}
 use Rattle.integers.specs.Fraction.{Fraction, IsFraction, SameFraction}
-use Rattle.integers.specs.Lexicographic.{IsLexPositive}
 use Rattle.integers.specs.Vector.{dot, scale, AreNonNegative, AreAtMost}
 use Rattle.integers.proofs.Laws.{lin}
-use Rattle.integers.proofs.Order.{le_of_lt}
+use Rattle.integers.proofs.Lexicographic.{IsLexPositive-first}
 use Rattle.frac128.specs.Problem.{ProblemData, IsProblem, AreEntries, combination, IsSpanCertificate}
 use Rattle.frac128.specs.declared.problem.Cert.{Cert}
 use Rattle.lex_simplex.specs.Answer.{row_entries, optimal_weights}
@@ -16,14 +15,9 @@ use Rattle.lex_simplex.specs.Equations.{quantities, IsTableauOf}
 use Rattle.lex_simplex.proofs.BasicPoint.{columns_distinct}
 use Rattle.lex_simplex.proofs.CertificateLemmas.{entries_of_weights, bound_of_weights, coefs_of_weights, length-spread, spread_nonneg, dot-spread}
 
--- the first number of a lexicographically positive list is not negative
-first_nonneg : (x : ℤ) (xs : List ℤ) → IsLexPositive (x ∷ xs) → pos 0 ≤ℤ x
-first_nonneg x xs (inl p) = le_of_lt (pos 0) x p
-first_nonneg x xs (inr p) = let z = p.0 in omega (arith, lin)
-
 -- the cost row's numbers are not negative
 pub cost_nonneg : (p : ProblemData) (t : Tableau) → IsTableauOf p t → AreNonNegative t.cost.coefs
-cost_nonneg p t h = All-from_get_or (λ x. pos 0 ≤ℤ x) t.cost.coefs (pos 0) (λ e l. first_nonneg (entry t.cost e) (map (λ (row : TableRow). entry row e) (take (length t.columns) t.rows)) (h.columns_positive e (subst (λ v. e < v) h.cost_fits.one_each l)))
+cost_nonneg p t h = All-from_get_or (λ x. pos 0 ≤ℤ x) t.cost.coefs (pos 0) (λ e l. IsLexPositive-first (entry t.cost e) (map (λ (row : TableRow). entry row e) (take (length t.columns) t.rows)) (h.columns_positive e (subst (λ v. e < v) h.cost_fits.one_each l)))
 
 -- as many weights as quantities
 pub optimal_weights-length : (p : ProblemData) (t : Tableau) → IsTableauOf p t → length (optimal_weights t) ≡ p.vars + length p.rows

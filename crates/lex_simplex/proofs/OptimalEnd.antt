@@ -1,53 +1,28 @@
 -- The end of a run where no constant is negative: the basic point is the least point, and its cost is that of the cost row.
-use lib.IntN.{*ℤ-zero, zero-*ℤ}
-use Rattle.std.proofs.Common.{◌≡◌, ◌⊎◌, inl, inr, ℕ, zero, suc, ◌<◌, length, map, take, get_or, replicate, List, [], ◌∷◌, ◌++◌, All, ℤ, pos, ◌+ℤ◌, ◌-ℤ◌, ◌*ℤ◌, neg_ℤ, ◌≤ℤ◌, ◌<ℤ◌, refl, sym, ap, subst, ◌∙◌, arith}
-use Rattle.std.proofs.lemmas.List.Elements.{All-nil, All-cons, All-head, All-tail, All-take, All-append, All-map}
-use Rattle.std.specs.Int.Signed.{≤ℤ_refl, <ℤ_irrefl}
-use Rattle.integers.specs.Fraction.{Fraction, IsFraction, SameFraction, over, SameFractions, AreFractions}
+use lib.IntN.{zero-*ℤ}
+use Rattle.std.proofs.Common.{◌≡◌, ◌⊎◌, inl, inr, ℕ, suc, ◌<◌, length, map, take, get_or, replicate, List, [], ◌∷◌, All, ℤ, pos, ◌+ℤ◌, ◌-ℤ◌, ◌*ℤ◌, neg_ℤ, ◌≤ℤ◌, ◌<ℤ◌, refl, sym, ap, subst, ◌∙◌, arith}
+use Rattle.std.proofs.lemmas.List.Elements.{All-nil, All-cons, All-head, All-tail, All-take, All-append}
+use Rattle.integers.specs.Fraction.{Fraction, SameFraction, over, SameFractions, AreFractions}
 use Rattle.integers.specs.Lexicographic.{IsLexPositive, LexLess}
 use Rattle.integers.specs.Vector.{dot, row_step, AreNonNegative, AreZero}
 use Rattle.integers.proofs.Laws.{lin}
-use Rattle.integers.proofs.Order.{mul_pos, mul_nonneg, lt_cases, nonneg_of_mul, le_of_lt}
+use Rattle.integers.proofs.Order.{mul_pos, mul_nonneg, nonneg_of_mul, le_of_lt}
 use Rattle.integers.proofs.Ring.{neg, ◌⊕◌, ◌⊖◌, ◌⊗◌, ◌≗◌, ◌✶◌, ◌⇐◌, combine7}
 use Rattle.integers.proofs.Fractions.{SameFraction-trans, SameFractions-sym, SameFractions-trans, AreFractions-over}
 use Rattle.integers.proofs.LexOrder.{LexLess-over}
-use Rattle.integers.proofs.Lexicographic.{AreZero-cons, AreZero-head, AreZero-tail}
+use Rattle.integers.proofs.Lists.{All-parts}
+use Rattle.integers.proofs.VectorOrder.{below_length, dot_cases}
+use Rattle.integers.proofs.Zeros.{AreZero-cons, AreZero-head, AreZero-tail}
 use Rattle.frac128.specs.Problem.{ProblemData, IsProblem, IsMetBy, IsFeasible, cost_at, cost_and_numbers}
-use Rattle.frac128.proofs.ProblemLaws.{cost_and_numbers-same}
 use Rattle.frac128.specs.declared.problem.Row.{Row}
+use Rattle.frac128.proofs.ProblemLaws.{cost_and_numbers-same}
 use Rattle.lex_simplex.specs.Answer.{IsLeastPoint}
 use Rattle.lex_simplex.specs.Tableau.{TableRow, Tableau, entry, value_of}
-use Rattle.lex_simplex.specs.Equations.{surplus, quantities, in_columns, Holds, AllHold, IsTableauOf}
-use Rattle.lex_simplex.proofs.BasicPoint.{variables_hold, length-in_columns, basic, Holds-zeros, dens_pos}
+use Rattle.lex_simplex.specs.Equations.{surplus, quantities, in_columns, Holds, AllHold, IsTableauOf, IsTableRow}
+use Rattle.lex_simplex.proofs.BasicPoint.{basic, Holds-zeros}
+use Rattle.lex_simplex.proofs.TableauRows.{AreFractions-rows, dens_pos, in_columns_nonneg, length-in_columns, variables_hold}
 
 -- ---- products with numbers that are not negative
-
--- coefficients that are not negative where a number is positive have a product that is positive, or 0 with 0 at each such place
-dot_cases : (cs us : List ℤ) → AreNonNegative us → ((e : ℕ) → pos 0 <ℤ get_or us e (pos 0) → pos 0 ≤ℤ get_or cs e (pos 0)) → pos 0 <ℤ dot cs us ⊎ (dot cs us ≡ pos 0) × ((e : ℕ) → pos 0 <ℤ get_or us e (pos 0) → get_or cs e (pos 0) ≡ pos 0)
-dot_cases [] us n h = inr (refl, λ e p. refl)
-dot_cases (c ∷ cs) [] n h = inr (refl, λ e p. absurd (<ℤ_irrefl p))
-dot_cases (c ∷ cs) (u ∷ us) n h = step (lt_cases (pos 0) u) (lt_cases (pos 0) c) (dot_cases cs us (All-tail (λ x. pos 0 ≤ℤ x) u us n) (λ e p. h (suc e) p))
-  where
-    nonneg : pos 0 ≤ℤ u
-    nonneg = All-head (λ x. pos 0 ≤ℤ x) u us n
-
-    later : pos 0 <ℤ dot cs us ⊎ (dot cs us ≡ pos 0) × ((e : ℕ) → pos 0 <ℤ get_or us e (pos 0) → get_or cs e (pos 0) ≡ pos 0) → c *ℤ u ≡ pos 0 → (pos 0 <ℤ u → c ≡ pos 0) → pos 0 <ℤ dot (c ∷ cs) (u ∷ us) ⊎ (dot (c ∷ cs) (u ∷ us) ≡ pos 0) × ((e : ℕ) → pos 0 <ℤ get_or (u ∷ us) e (pos 0) → get_or (c ∷ cs) e (pos 0) ≡ pos 0)
-    later (inl p) z first = inl (omega (arith, lin))
-    later (inr r) z first =
-        let rest = r.0 in
-        inr (omega (arith, lin), λ e. at e)
-      where
-        at : (e : ℕ) → pos 0 <ℤ get_or (u ∷ us) e (pos 0) → get_or (c ∷ cs) e (pos 0) ≡ pos 0
-        at zero p = first p
-        at (suc e) p = r.1 e p
-
-    step : pos 0 <ℤ u ⊎ (pos 0 ≡ u) ⊎ u <ℤ pos 0 → pos 0 <ℤ c ⊎ (pos 0 ≡ c) ⊎ c <ℤ pos 0 → pos 0 <ℤ dot cs us ⊎ (dot cs us ≡ pos 0) × ((e : ℕ) → pos 0 <ℤ get_or us e (pos 0) → get_or cs e (pos 0) ≡ pos 0) → pos 0 <ℤ dot (c ∷ cs) (u ∷ us) ⊎ (dot (c ∷ cs) (u ∷ us) ≡ pos 0) × ((e : ℕ) → pos 0 <ℤ get_or (u ∷ us) e (pos 0) → get_or (c ∷ cs) e (pos 0) ≡ pos 0)
-    step (inl p) (inl q) (inl r) = let m = mul_pos c u q p in inl (omega (arith, lin))
-    step (inl p) (inl q) (inr r) = let m = mul_pos c u q p in let z = r.0 in inl (omega (arith, lin))
-    step (inl p) (inr (inl q)) r = later r (ap (λ z. z *ℤ u) (sym q) ∙ zero-*ℤ u) (λ k. sym q)
-    step (inl p) (inr (inr q)) r = let k = h 0 p in absurd (omega (arith, lin))
-    step (inr (inl p)) w r = later r (ap (λ z. c *ℤ z) (sym p) ∙ *ℤ-zero c) (λ k. absurd (omega (arith, lin)))
-    step (inr (inr p)) w r = let k = nonneg in absurd (omega (arith, lin))
 
 -- over columns that are lexicographically positive, the rows' products with such numbers are so, or all are 0
 dots_cases : (us : List ℤ) (rows : List TableRow) → AreNonNegative us → ((e : ℕ) → pos 0 <ℤ get_or us e (pos 0) → IsLexPositive (map (λ (row : TableRow). entry row e) rows)) → IsLexPositive (map (λ (row : TableRow). dot row.coefs us) rows) ⊎ AreZero (map (λ (row : TableRow). dot row.coefs us) rows)
@@ -129,26 +104,6 @@ none_below (x ∷ X) (y ∷ Y) us k m (row ∷ rows) pk dens s h c p = step c p 
 
 -- ---- what is feasible
 
--- the first of two lists in a row whose numbers are not negative
-pub AreNonNegative-left : (xs ys : List ℤ) → AreNonNegative (xs ++ ys) → AreNonNegative xs
-AreNonNegative-left [] ys h = All-nil (λ x. pos 0 ≤ℤ x)
-AreNonNegative-left (x ∷ xs) ys h = All-cons (λ x. pos 0 ≤ℤ x) x xs (All-head (λ x. pos 0 ≤ℤ x) x (xs ++ ys) h) (AreNonNegative-left xs ys (All-tail (λ x. pos 0 ≤ℤ x) x (xs ++ ys) h))
-
--- and the second
-pub AreNonNegative-right : (xs ys : List ℤ) → AreNonNegative (xs ++ ys) → AreNonNegative ys
-AreNonNegative-right [] ys h = h
-AreNonNegative-right (x ∷ xs) ys h = AreNonNegative-right xs ys (All-tail (λ x. pos 0 ≤ℤ x) x (xs ++ ys) h)
-
--- a number at a place is not negative
-get_or_nonneg : (qs : List ℤ) → AreNonNegative qs → (c : ℕ) → pos 0 ≤ℤ get_or qs c (pos 0)
-get_or_nonneg [] h c = ≤ℤ_refl (pos 0)
-get_or_nonneg (q ∷ qs) h zero = All-head (λ x. pos 0 ≤ℤ x) q qs h
-get_or_nonneg (q ∷ qs) h (suc c) = get_or_nonneg qs (All-tail (λ x. pos 0 ≤ℤ x) q qs h) c
-
--- nor are the columns' numbers
-pub in_columns_nonneg : (columns : List ℕ) (qs : List ℤ) → AreNonNegative qs → AreNonNegative (in_columns columns qs)
-in_columns_nonneg columns qs h = All-map (λ x. pos 0 ≤ℤ x) (λ c. get_or qs c (pos 0)) columns (λ i d l. get_or_nonneg qs h (get_or columns i d))
-
 -- rows whose surpluses are not negative are met
 met_from_surpluses : (x : List ℤ) (n : ℤ) (rows : List Row) → AreNonNegative (map (surplus x n) rows) → All (IsMetBy x n) rows
 met_from_surpluses x n [] h = All-nil (IsMetBy x n)
@@ -162,12 +117,6 @@ surpluses_from_met x n (row ∷ rows) h = All-cons (λ x. pos 0 ≤ℤ x) (surpl
 -- the quantities of a point that meets the problem are not negative
 pub quantities_nonneg : (p : ProblemData) (x : List ℤ) (n : ℤ) → IsFeasible p x n → AreNonNegative (quantities p x n)
 quantities_nonneg p x n f = All-append (λ x. pos 0 ≤ℤ x) x (map (surplus x n) p.rows) f.nonneg (surpluses_from_met x n p.rows f.meets)
-
--- a place with a positive number is one of the list
-below_length : (us : List ℤ) (e : ℕ) → pos 0 <ℤ get_or us e (pos 0) → e < length us
-below_length [] e h = absurd (<ℤ_irrefl h)
-below_length (u ∷ us) zero h = omega arith
-below_length (u ∷ us) (suc e) h = let k = below_length us e h in omega arith
 
 -- ---- the basic point
 
@@ -190,11 +139,12 @@ basic_feasible p t h c =
     let qs : List ℤ = quantities p b.0 b.1 in
     let values = same_values qs p.vars b.1 t.rows (subst (λ us. AllHold qs us b.1 t.rows) b.4 (h.rows_hold b.0 b.1 b.3)) in
     let nonneg = values_nonneg qs b.1 t.rows b.2 (dens_pos p.vars t.rows h.rows_fit) c values in
+    let parts = (All-parts (λ x. pos 0 ≤ℤ x) b.0 (map (surplus b.0 b.1) p.rows)).0 nonneg in
     record {
       den_pos = b.2;
       one_each = b.3;
-      nonneg = AreNonNegative-left b.0 (map (surplus b.0 b.1) p.rows) nonneg;
-      meets = met_from_surpluses b.0 b.1 p.rows (AreNonNegative-right b.0 (map (surplus b.0 b.1) p.rows) nonneg);
+      nonneg = parts.0;
+      meets = met_from_surpluses b.0 b.1 p.rows parts.1;
     }
 
 -- no point that meets the problem comes before it
@@ -227,6 +177,6 @@ pub cost_value : (p : ProblemData) (t : Tableau) → IsTableauOf p t → (x : Li
 cost_value p t h x n pn s =
     let b = basic p t h in
     let values : List Fraction = map value_of (take p.vars t.rows) in
-    let fractions : AreFractions values = All-map IsFraction value_of (take p.vars t.rows) (All-take (λ (row : TableRow). pos 0 <ℤ row.den) p.vars t.rows (dens_pos p.vars t.rows h.rows_fit)) in
+    let fractions : AreFractions values = AreFractions-rows p.vars (take p.vars t.rows) (All-take (IsTableRow p.vars) p.vars t.rows h.rows_fit) in
     let same : SameFractions (over x n) (over b.0 b.1) = SameFractions-trans (over x n) values (over b.0 b.1) (AreFractions-over x n pn) fractions (AreFractions-over b.0 b.1 b.2) s (SameFractions-sym (over b.0 b.1) values (basic_values p t h)) in
     SameFraction-trans (cost_at p x n) (cost_at p b.0 b.1) (value_of t.cost) pn b.2 h.cost_fits.den_pos (cost_and_numbers-same p x n b.0 b.1 same).0 (basic_cost p t h)

@@ -1,42 +1,36 @@
 -- What is read at the end of a run is the problem's answer.
-use lib.ListN.{length-replicate, length-set}
-use Rattle.std.proofs.Common.{◌≡◌, ℕ, ◌≤◌, length, map, take, replicate, List, ℤ, pos, negsuc, ◌≤ℤ◌, ◌<ℤ◌, All, Ok, ap, subst, arith}
-use Rattle.std.proofs.lemmas.List.Elements.{All-map, All-take, All-weaker}
+use Rattle.std.proofs.Common.{◌≡◌, ℕ, ◌≤◌, length, map, take, List, ℤ, pos, ◌≤ℤ◌, All, Ok, ap, subst, arith}
+use Rattle.std.proofs.lemmas.List.Elements.{All-take, All-weaker}
 use Rattle.integers.specs.Fraction.{Fraction, IsFraction, SameFraction, AreFractions, over, SameFractions}
-use Rattle.integers.specs.Vector.{scale}
 use Rattle.integers.proofs.Fractions.{SameFraction-trans, SameFractions-trans, AreFractions-over}
 use Rattle.frac128.specs.Frac.{IsReduced}
 use Rattle.frac128.specs.Problem.{ProblemData, IsProblem, cost_at}
 use Rattle.frac128.specs.declared.problem.Cert.{Cert}
-use Rattle.lex_simplex.specs.Answer.{IsLeastPoint, IsOutcome, spread, row_entries, optimal_weights, empty_weights}
-use Rattle.lex_simplex.specs.Equations.{IsTableauOf}
+use Rattle.lex_simplex.specs.Answer.{IsLeastPoint, IsOutcome, row_entries, optimal_weights, empty_weights}
+use Rattle.lex_simplex.specs.Equations.{IsTableauOf, IsTableRow}
 use Rattle.lex_simplex.specs.Pivot.{IsLeaving}
 use Rattle.lex_simplex.specs.State.{HasProblem}
-use Rattle.lex_simplex.specs.Tableau.{TableRow, Tableau, row_of, entry, value_of}
+use Rattle.lex_simplex.specs.Tableau.{Tableau, row_of, entry, value_of}
 use Rattle.lex_simplex.specs.Turn.{turn, ended}
 use Rattle.lex_simplex.specs.declared.end.End.TheVariants.{Optimal, Empty}
 use Rattle.lex_simplex.specs.declared.outcome.Outcome.TheVariants.{Least, Nothing}
-use Rattle.lex_simplex.proofs.BasicPoint.{dens_pos}
-use Rattle.lex_simplex.proofs.CertificateLemmas.{length-spread}
 use Rattle.lex_simplex.proofs.ChoiceLemmas.{leaving-some}
-use Rattle.lex_simplex.proofs.EmptyEnd.{empty_certificate, empty_infeasible}
+use Rattle.lex_simplex.proofs.EmptyEnd.{empty_certificate, empty_infeasible, empty_weights-length}
 use Rattle.lex_simplex.proofs.EnteringLemmas.{turn_empty}
-use Rattle.lex_simplex.proofs.OptimalCertificate.{optimal_certificate}
+use Rattle.lex_simplex.proofs.OptimalCertificate.{optimal_certificate, optimal_weights-length}
 use Rattle.lex_simplex.proofs.OptimalEnd.{optimal_point, cost_value}
-use Rattle.lex_simplex.proofs.PointReading.{HasProblem-long}
 use Rattle.lex_simplex.proofs.TurnLemmas.{turn_optimal}
+use Rattle.lex_simplex.proofs.TableauRows.{AreFractions-rows}
 
 -- ---- weights
 
 -- there is a weight for each variable at least
 pub optimal_weights-long : (t : Tableau) (weights : List ℤ) → HasProblem t → weights ≡ optimal_weights t → length t.columns ≤ length weights
-optimal_weights-long t weights h is = omega (arith, HasProblem-long t h, ap length is, length-spread t.columns t.cost.coefs (replicate (length t.rows) (pos 0)), length-replicate (length t.rows) (pos 0))
+optimal_weights-long t weights h is = omega (arith, ap length is, optimal_weights-length h.0 t h.2, h.2.one_column_each)
 
 -- and at the other end
 pub empty_weights-long : (t : Tableau) (r : ℕ) (weights : List ℤ) → HasProblem t → weights ≡ empty_weights t r → length t.columns ≤ length weights
-empty_weights-long t r weights h is =
-    let ys : List ℤ = scale (negsuc 0) (row_of t r).coefs in
-    omega (arith, HasProblem-long t h, ap length is, length-set (spread t.columns ys (replicate (length t.rows) (pos 0))) r (row_of t r).den, length-spread t.columns ys (replicate (length t.rows) (pos 0)), length-replicate (length t.rows) (pos 0))
+empty_weights-long t r weights h is = omega (arith, ap length is, empty_weights-length h.0 t r h.2, h.2.one_column_each)
 
 -- ---- outcomes
 
@@ -45,7 +39,7 @@ pub least_outcome : (p : ProblemData) (t : Tableau) → IsProblem p → IsTablea
 least_outcome p t ok h end point value cert same lowest cost reduced den on =
     let least : IsLeastPoint p (map value_of (take p.vars t.rows)) = optimal_point p t ok h (turn_optimal t end) in
     let values : List Fraction = map value_of (take p.vars t.rows) in
-    let fractions : AreFractions values = All-map IsFraction value_of (take p.vars t.rows) (All-take (λ (row : TableRow). pos 0 <ℤ row.den) p.vars t.rows (dens_pos p.vars t.rows h.rows_fit)) in
+    let fractions : AreFractions values = AreFractions-rows p.vars (take p.vars t.rows) (All-take (IsTableRow p.vars) p.vars t.rows h.rows_fit) in
     let read : SameFractions values point = subst (λ v. SameFractions (map value_of (take v t.rows)) point) h.one_column_each same in
     let den_pos = least.least.feasible.den_pos in (
       record {

@@ -2,41 +2,23 @@
 use lib.IntN.{*ℤ_comm}
 use Rattle.std.proofs.lemmas.List.{length-map, length-set, take-map}
 use Rattle.std.proofs.lemmas.List.Elements.{All-head, All-tail}
-use Rattle.std.proofs.Common.{◌≡◌, ◌≢◌, inl, inr, ℕ, ◌<◌, length, take, map, List, [], ◌∷◌, ℤ, pos, ◌*ℤ◌, ◌<ℤ◌, refl, sym, ap, subst, ◌∙◌, arith}
+use Rattle.std.proofs.Common.{◌≡◌, ◌≢◌, ℕ, ◌<◌, length, take, map, List, [], ◌∷◌, ℤ, pos, ◌<ℤ◌, refl, sym, ap, ◌∙◌, arith}
 use Rattle.std.specs.Prelude.{All}
 use Rattle.std.specs.List.{AllZip}
 use Rattle.std.proofs.lemmas.Int.{by_lt_z}
 use Rattle.integers.specs.Fraction.{over}
 use Rattle.integers.specs.Lexicographic.{IsLexPositive, LexLess}
 use Rattle.integers.specs.Vector.{scale, row_step}
-use Rattle.integers.proofs.Lexicographic.{IsLexPositive-scale, IsLexPositive-row_step}
+use Rattle.integers.proofs.Lexicographic.{IsLexPositive-scale, IsLexPositive-row_step, IsLexPositive-multiples, IsMultiple}
 use Rattle.integers.proofs.LexOrder.{LexLess-over}
-use Rattle.integers.proofs.Order.{pos_of_mul, zero_of_mul}
 use Rattle.integers.proofs.Ring.{◌⊖◌, ◌⊗◌, ◌≗◌, ring4}
 use Rattle.lex_simplex.specs.Equations.{IsTableRow}
 use Rattle.lex_simplex.specs.Tableau.{TableRow, Tableau, ordering_rows, row_of, entry}
 use Rattle.lex_simplex.specs.Turn.{next_row, pivoted}
 use Rattle.lex_simplex.proofs.RowLemmas.{next_row-entries}
-
--- ---- general
-
--- the first number is a positive multiple of the second
-abbrev pub IsMultiple : ℤ → ℤ → Type 0
-IsMultiple x y = (c : ℤ) × (pos 0 <ℤ c) × (c *ℤ y ≡ x)
-
--- a list is positive where positive multiples of its numbers are
-pub IsLexPositive-multiples : (xs ys : List ℤ) → AllZip IsMultiple xs ys → IsLexPositive xs → IsLexPositive ys
-IsLexPositive-multiples [] [] m h = h
-IsLexPositive-multiples [] (y ∷ ys) m h = absurd m
-IsLexPositive-multiples (x ∷ xs) [] m h = absurd m
-IsLexPositive-multiples (x ∷ xs) (y ∷ ys) m (inl h) = inl (pos_of_mul y m.0.0 m.0.1 (subst (λ z. pos 0 <ℤ z) (sym m.0.2 ∙ *ℤ_comm m.0.0 y) h))
-IsLexPositive-multiples (x ∷ xs) (y ∷ ys) m (inr h) = inr (zero_of_mul y m.0.0 m.0.1 (*ℤ_comm y m.0.0 ∙ m.0.2 ∙ h.0), IsLexPositive-multiples xs ys m.1 h.1)
+use Rattle.lex_simplex.proofs.TableauRows.{column_in}
 
 -- ---- columns over a list of rows
-
--- the numbers of a column
-abbrev pub column_in : List TableRow → ℕ → List ℤ
-column_in rows e = map (λ (row : TableRow). entry row e) rows
 
 -- after the pivot the column of the pivot has fractions of its numbers times the pivot row's denominator
 next_column-same : (vars : ℕ) (pivot : TableRow) (e : ℕ) → pos 0 <ℤ entry pivot e → e < vars → (rows : List TableRow) → All (IsTableRow vars) rows → AllZip IsMultiple (scale pivot.den (column_in rows e)) (column_in (map (next_row pivot e) rows) e)

@@ -1,18 +1,13 @@
 -- A pivot keeps the equations of a tableau: the column of the pivot stands for the pivot row's quantity from then on.
-use Rattle.std.proofs.lemmas.List.{map-set}
 use Rattle.std.proofs.lemmas.List.Elements.{All-head, All-tail}
-use Rattle.std.proofs.Common.{◌≡◌, ℕ, zero, suc, ◌<◌, length, get_or, set, map, List, [], ◌∷◌, ℤ, pos, ◌+ℤ◌, ◌-ℤ◌, ◌*ℤ◌, ◌<ℤ◌, sym, subst, arith}
+use Rattle.std.proofs.Common.{◌≡◌, ℕ, ◌<◌, length, set, map, List, [], ◌∷◌, ℤ, pos, ◌+ℤ◌, ◌-ℤ◌, ◌*ℤ◌, ◌<ℤ◌, sym, subst, arith}
 use Rattle.std.specs.Prelude.{All}
 use Rattle.integers.specs.Vector.{dot, row_step}
 use Rattle.integers.proofs.Pivot.{pivot_keeps, divided_row}
-use Rattle.lex_simplex.specs.Equations.{in_columns, Holds, AllHold, IsTableRow}
+use Rattle.lex_simplex.specs.Equations.{Holds, AllHold, IsTableRow}
 use Rattle.lex_simplex.specs.Tableau.{TableRow, entry}
 use Rattle.lex_simplex.specs.Turn.{next_row}
 use Rattle.lex_simplex.proofs.RowLemmas.{next_row-scaled}
-
--- the columns' quantities after one column changes its quantity
-pub in_columns-set : (columns : List ℕ) (qs : List ℤ) (e r : ℕ) → in_columns (set columns e r) qs ≡ set (in_columns columns qs) e (get_or qs r (pos 0))
-in_columns-set columns qs e r = map-set (λ c. get_or qs c (pos 0)) columns e r
 
 -- a row's equation after the pivot
 pub next_row-holds : (pivot : TableRow) (e : ℕ) (row : TableRow) (us : List ℤ) (q r n : ℤ) → pos 0 <ℤ entry pivot e → pos 0 <ℤ row.den → e < length row.coefs → e < length us → Holds r us n pivot → Holds q us n row → Holds q (set us e r) n (next_row pivot e row)
@@ -35,11 +30,3 @@ next_rows-hold vars pivot e us r n pa below in_us hp (q ∷ qs) [] fit h = absur
 next_rows-hold vars pivot e us r n pa below in_us hp (q ∷ qs) (row ∷ rows) fit h =
     let fits = All-head (IsTableRow vars) row rows fit in
     (next_row-holds pivot e row us q r n pa fits.den_pos (omega (arith, fits.one_each)) in_us hp h.0, next_rows-hold vars pivot e us r n pa below in_us hp qs rows (All-tail (IsTableRow vars) row rows fit) h.1)
-
--- of all rows' equations the one at a place
-pub AllHold-at : (us : List ℤ) (n : ℤ) (d : TableRow) (qs : List ℤ) (rows : List TableRow) (r : ℕ) → r < length rows → AllHold qs us n rows → Holds (get_or qs r (pos 0)) us n (get_or rows r d)
-AllHold-at us n d [] [] r below h = absurd (omega arith)
-AllHold-at us n d [] (row ∷ rows) r below h = absurd h
-AllHold-at us n d (q ∷ qs) [] r below h = absurd h
-AllHold-at us n d (q ∷ qs) (row ∷ rows) zero below h = h.0
-AllHold-at us n d (q ∷ qs) (row ∷ rows) (suc r) below h = AllHold-at us n d qs rows r (omega arith) h.1

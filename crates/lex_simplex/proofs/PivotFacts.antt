@@ -1,14 +1,14 @@
 -- What a pivot on cells is for the tableau that they are read as.
-use Rattle.std.proofs.Common.{◌≡◌, ◌↔◌, ℕ, ◌+◌, ◌<◌, length, get_or, set, map, All, List, [], ℤ, pos, refl, sym, ap, ap₂, subst, subst₂, ◌∙◌, arith}
+use Rattle.std.proofs.Common.{◌≡◌, ◌↔◌, ℕ, ◌+◌, ◌<◌, length, get_or, set, map, All, List, [], ℤ, pos, sym, ap, ap₂, subst, subst₂, ◌∙◌, arith}
+use Rattle.std.proofs.lemmas.List.{get_or_default}
+use Rattle.frac128.specs.Range.{IsInRange}
 use Rattle.lex_simplex.specs.Cells.{AreCells, CanExchange, ExchangesFit, exchanged, prepared, row_in, tableau_in}
 use Rattle.lex_simplex.specs.Pivot.{IsEntering, PivotFits}
 use Rattle.lex_simplex.specs.State.{HasProblem}
 use Rattle.lex_simplex.specs.Tableau.{row_of, entry}
 use Rattle.lex_simplex.specs.Turn.{pivoted, pivot_numbers}
-use Rattle.frac128.specs.Range.{IsInRange}
-use Rattle.lex_simplex.proofs.CellReading.{entry-cells, row_of-cells, length-cells}
+use Rattle.lex_simplex.proofs.CellReading.{entry-cells, row_of-cells, length-cells, column_within}
 use Rattle.lex_simplex.proofs.CellTables.{ExchangesFit-table, exchanged-table, AreCells-exchanged, can_exchange}
-use Rattle.lex_simplex.proofs.RowLists.{get_or-default}
 
 -- the pivot row's number in the pivot column, and its prepared cells, as code has them
 pub record IsPrepared (columns : List ℕ) (rows : List (List ℤ)) (r e : ℕ) (number : ℤ) (room : List ℤ) : Type 0 where
@@ -19,24 +19,17 @@ pub record IsPrepared (columns : List ℕ) (rows : List (List ℤ)) (r e : ℕ) 
   pub number_is : number ≡ entry (row_of (tableau_in rows columns) r) e
   pub room_is : room ≡ prepared (row_of (tableau_in rows columns) r) e
 
--- the place of the pivot column is within the row's cells
-pub column_within : (columns : List ℕ) (rows : List (List ℤ)) (r e : ℕ) → AreCells columns rows → r < length (tableau_in rows columns).rows → e < length columns → e + 2 < length (get_or rows (r + 1) [])
-column_within columns rows r e cells below h =
-    let long = length-cells columns rows cells in
-    let wide = cells.wide (r + 1) [] (omega (arith, long)) in
-    omega (arith, wide)
-
 -- from the cells of the pivot row
 pub IsPrepared-from : (columns : List ℕ) (rows : List (List ℤ)) (r e : ℕ) (row : List ℤ) (number : ℤ) (room : List ℤ) → AreCells columns rows → HasProblem (tableau_in rows columns) → r < length (tableau_in rows columns).rows → IsEntering (tableau_in rows columns) r e → row ≡ get_or rows (r + 1) [] → number ≡ get_or row (e + 2) number → room ≡ prepared (row_in row) e → IsPrepared columns rows r e number room
 IsPrepared-from columns rows r e row number room cells tableau below entering is read ready =
     let row_is : row_in row ≡ row_of (tableau_in rows columns) r = ap row_in is ∙ sym (row_of-cells columns rows r below) in
-    let within : e + 2 < length row = subst (λ xs. e + 2 < length xs) (sym is) (column_within columns rows r e cells below entering.below) in
+    let within : e + 2 < length row = column_within columns rows (r + 1) e row cells (omega (arith, length-cells columns rows cells)) is entering.below in
     record {
       cells = cells;
       tableau = tableau;
       below = below;
       entering = entering;
-      number_is = read ∙ get_or-default row (e + 2) number (pos 0) within ∙ sym (entry-cells row e) ∙ ap (λ x. entry x e) row_is;
+      number_is = read ∙ get_or_default row (e + 2) number (pos 0) within ∙ sym (entry-cells row e) ∙ ap (λ x. entry x e) row_is;
       room_is = ready ∙ ap (λ x. prepared x e) row_is;
     }
 

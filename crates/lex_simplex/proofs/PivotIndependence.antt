@@ -1,35 +1,20 @@
 -- A pivot keeps the columns independent over the variables' rows.
 use lib.IntN.{*ℤ_comm, *ℤ-zero}
 use Rattle.std.proofs.lemmas.List.{length-set, get_or-set_same, get_or-set_other}
-use Rattle.std.proofs.lemmas.List.Elements.{All-nil, All-cons, All-head, All-tail, All-get_or, All-from_get_or}
-use Rattle.std.proofs.Common.{◌≡◌, ◌≢◌, inl, inr, ℕ, ◌<◌, length, get_or, set, map, List, [], ◌∷◌, ℤ, pos, ◌+ℤ◌, ◌-ℤ◌, ◌*ℤ◌, ◌<ℤ◌, refl, sym, ap, ap₂, ◌∙◌, arith}
+use Rattle.std.proofs.lemmas.List.Elements.{All-nil, All-cons, All-head, All-tail, All-get_or}
+use Rattle.std.proofs.Common.{◌≡◌, ◌≢◌, ℕ, ◌<◌, length, get_or, set, map, List, [], ◌∷◌, ℤ, pos, ◌+ℤ◌, ◌-ℤ◌, ◌*ℤ◌, ◌<ℤ◌, refl, sym, ap, ap₂, ◌∙◌, arith}
 use Rattle.std.specs.Prelude.{All}
-use Rattle.std.proofs.lemmas.Bool.{cases_eq}
 use Rattle.integers.specs.Vector.{dot, scale, row_step, AreZero}
 use Rattle.integers.proofs.Laws.{lin}
-use Rattle.integers.proofs.Lexicographic.{AreZero-head, AreZero-tail}
 use Rattle.integers.proofs.Order.{zero_of_mul}
-use Rattle.integers.proofs.Ring.{con, neg, ◌⊕◌, ◌⊖◌, ◌⊗◌, ◌≗◌, ◌✶◌, ◌⇐◌, ring2, combine9}
-use Rattle.integers.proofs.Vector.{dot_comm, dot-scale, dot-scale_right, dot-row_step, dot-set}
+use Rattle.integers.proofs.Ring.{con, neg, ◌⊕◌, ◌⊖◌, ◌⊗◌, ◌≗◌, ◌✶◌, ◌⇐◌, combine9}
+use Rattle.integers.proofs.Vector.{dot-scale, dot-scale_right, dot-row_step, dot-set, dot-set_right}
 use Rattle.integers.proofs.VectorLaws.{length-scale, length-row_step, get_or-scale, get_or-row_step}
+use Rattle.integers.proofs.Zeros.{AreZero-from_others, dot-AreZero}
 use Rattle.lex_simplex.specs.Equations.{IsTableRow}
 use Rattle.lex_simplex.specs.Tableau.{TableRow, entry}
 use Rattle.lex_simplex.specs.Turn.{next_row}
 use Rattle.lex_simplex.proofs.RowLemmas.{next_row-scaled}
-
--- ---- general
-
--- a product with a changed second list
-pub dot-set_right : (us xs : List ℤ) (i : ℕ) (a : ℤ) → i < length xs → dot us (set xs i a) ≡ dot us xs +ℤ (a -ℤ get_or xs i (pos 0)) *ℤ get_or us i (pos 0)
-dot-set_right us xs i a h = dot_comm us (set xs i a) ∙ dot-set xs us i a h ∙ ap (λ z. z +ℤ (a -ℤ get_or xs i (pos 0)) *ℤ get_or us i (pos 0)) (dot_comm xs us)
-
--- a product with a list of zeros
-pub dot-AreZero : (us xs : List ℤ) → AreZero xs → dot us xs ≡ pos 0
-dot-AreZero [] xs z = refl
-dot-AreZero (u ∷ us) [] z = refl
-dot-AreZero (u ∷ us) (x ∷ xs) z = ap₂ (λ a b. u *ℤ a +ℤ b) (AreZero-head x xs z) (dot-AreZero us xs (AreZero-tail x xs z)) ∙ ring2 (λ u v. u ⊗ con (pos 0) ⊕ con (pos 0) ≗ con (pos 0)) refl u u
-
--- ---- a direction in the columns before the pivot
 
 -- the step in the columns before the pivot, for a step in the columns after it, times the pivot
 abbrev pub step_before : TableRow → ℕ → List ℤ → List ℤ
@@ -53,10 +38,6 @@ dot-step_before pivot e row d pa pd in_row in_d =
     let in_step : e < length step = omega (arith, length-row_step a b row.coefs pivot.coefs) in
     let right : s.0 *ℤ dot next.coefs d ≡ a *ℤ t -ℤ b *ℤ p +ℤ (b *ℤ pivot.den -ℤ (a *ℤ b -ℤ b *ℤ a)) *ℤ x = sym (dot-scale s.0 next.coefs d) ∙ ap (λ zs. dot zs d) s.4 ∙ dot-set step d e (b *ℤ pivot.den) in_step ∙ ap₂ (λ y z. y +ℤ (b *ℤ pivot.den -ℤ z) *ℤ x) (dot-row_step a b row.coefs pivot.coefs d) (get_or-row_step a b row.coefs pivot.coefs e) in
     (s.0, s.1, combine9 (λ a b t p x R l w y. l ≗ y ⇐ con (pos 1) ✶ (l ≗ a ⊗ t ⊕ ((R ⊗ x ⊖ w) ⊖ a ⊗ x) ⊗ b) ∷ con (pos 1) ✶ (a ⊗ t ⊖ b ⊗ p ⊕ (b ⊗ R ⊖ (a ⊗ b ⊖ b ⊗ a)) ⊗ x ≗ y) ∷ neg b ✶ (w ≗ p ⊕ (con (pos 0) ⊖ x) ⊗ a) ∷ []) refl a b t p x pivot.den (dot row.coefs (step_before pivot e d)) (dot pivot.coefs (set d e (pos 0))) (s.0 *ℤ dot next.coefs d) left (sym right) rest)
-
--- numbers that are 0 apart from the place e, and there too
-AreZero-from_others : (xs : List ℤ) (e : ℕ) → ((j : ℕ) → j < length xs → j ≢ e → get_or xs j (pos 0) ≡ pos 0) → get_or xs e (pos 0) ≡ pos 0 → AreZero xs
-AreZero-from_others xs e others here = All-from_get_or (λ x. x ≡ pos 0) xs (pos 0) (λ j below. elim (cases_eq j e) [ inl is ↦ ap (λ i. get_or xs i (pos 0)) is ∙ here | inr apart ↦ others j below apart ])
 
 -- where the step before the pivot is 0, the step after it is
 pub AreZero-from_step_before : (pivot : TableRow) (e : ℕ) (d : List ℤ) → pos 0 <ℤ entry pivot e → pos 0 <ℤ pivot.den → e < length d → AreZero (step_before pivot e d) → AreZero d

@@ -1,32 +1,21 @@
 -- What a pivot makes of a tableau of a problem is one again.
 use Rattle.std.proofs.lemmas.Bool.{cases_eq}
 use Rattle.std.proofs.lemmas.List.{length-map, length-set, take-map}
-use Rattle.std.proofs.lemmas.List.Elements.{All-cons, All-get_or, All-map, All-set, All-take, All-weaker}
-use Rattle.std.proofs.Common.{◌≡◌, ◌≢◌, inl, inr, ℕ, ◌<◌, length, get_or, take, map, List, [], ℤ, pos, ◌<ℤ◌, sym, subst, ◌∙◌, arith}
+use Rattle.std.proofs.lemmas.List.Elements.{All-map, All-set, All-take, All-weaker}
+use Rattle.std.proofs.Common.{◌≡◌, ◌≢◌, inl, inr, ℕ, ◌<◌, length, get_or, take, map, List, ℤ, pos, ◌<ℤ◌, sym, subst, ◌∙◌, arith}
 use Rattle.std.specs.Prelude.{All}
-use Rattle.frac128.specs.Problem.{ProblemData}
 use Rattle.integers.specs.Lexicographic.{IsLexPositive}
 use Rattle.integers.specs.Vector.{dot}
+use Rattle.frac128.specs.Problem.{ProblemData}
 use Rattle.lex_simplex.specs.Equations.{quantities, in_columns, Holds, AllHold, IsTableRow, IsTableauOf}
 use Rattle.lex_simplex.specs.Pivot.{IsEntering}
 use Rattle.lex_simplex.specs.Tableau.{TableRow, Tableau, ordering_rows, row_of, entry, column}
 use Rattle.lex_simplex.specs.Turn.{next_row, pivoted}
-use Rattle.lex_simplex.proofs.PivotColumns.{column_in, next_column-same_positive, next_column-other_positive, ordering_rows-pivoted}
-use Rattle.lex_simplex.proofs.PivotEquations.{in_columns-set, next_row-holds, next_rows-hold, AllHold-at}
+use Rattle.lex_simplex.proofs.PivotColumns.{next_column-same_positive, next_column-other_positive, ordering_rows-pivoted}
+use Rattle.lex_simplex.proofs.PivotEquations.{next_row-holds, next_rows-hold}
 use Rattle.lex_simplex.proofs.PivotIndependence.{next_rows-independent}
 use Rattle.lex_simplex.proofs.RowLemmas.{next_row-fits}
-
--- the row of a quantity has the shape of a row
-pub row_of-fits : (p : ProblemData) (t : Tableau) (r : ℕ) → IsTableauOf p t → r < length t.rows → IsTableRow p.vars (row_of t r)
-row_of-fits p t r is below = All-get_or (IsTableRow p.vars) t.rows r (record { den = pos 1; constant = pos 0; coefs = [] }) below is.rows_fit
-
--- the equation of a quantity's row
-pub row_of-holds : (p : ProblemData) (t : Tableau) (r : ℕ) → IsTableauOf p t → r < length t.rows → (x : List ℤ) (n : ℤ) → length x ≡ p.vars → Holds (get_or (quantities p x n) r (pos 0)) (in_columns t.columns (quantities p x n)) n (row_of t r)
-row_of-holds p t r is below x n wide = AllHold-at (in_columns t.columns (quantities p x n)) n (record { den = pos 1; constant = pos 0; coefs = [] }) (quantities p x n) t.rows r below (is.rows_hold x n wide)
-
--- the rows that order columns have the shape of rows
-pub ordering_rows-fit : (p : ProblemData) (t : Tableau) → IsTableauOf p t → All (IsTableRow p.vars) (ordering_rows t)
-ordering_rows-fit p t is = All-cons (IsTableRow p.vars) t.cost (take (length t.columns) t.rows) is.cost_fits (All-take (IsTableRow p.vars) (length t.columns) t.rows is.rows_fit)
+use Rattle.lex_simplex.proofs.TableauRows.{column_in, in_columns-set, ordering_rows-fit, row_of-fits, row_of-holds}
 
 -- the columns after the pivot are lexicographically positive
 pivoted-column_positive : (p : ProblemData) (t : Tableau) (r e : ℕ) → IsTableauOf p t → r < length t.rows → IsEntering t r e → (j : ℕ) → j < p.vars → IsLexPositive (column (pivoted t r e) j)

@@ -1,12 +1,13 @@
 -- What the rows of a problem's table are read as: positive denominators, and the values of the variables.
 use Rattle.std.proofs.Common.{◌≡◌, ℕ, zero, suc, ◌+◌, ◌<◌, ◌≤◌, length, get_or, map, take, List, [], ◌∷◌, ◌++◌, ℤ, pos, ◌<ℤ◌, sym, ap, subst, ◌∙◌, arith, add-one}
+use Rattle.std.proofs.lemmas.List.{get_or_default}
 use Rattle.integers.specs.Fraction.{Fraction, SameFraction, SameFractions}
 use Rattle.lex_simplex.specs.Cells.{AreCells, row_in, tableau_in}
 use Rattle.lex_simplex.specs.Equations.{IsTableRow}
 use Rattle.lex_simplex.specs.State.{HasProblem}
 use Rattle.lex_simplex.specs.Tableau.{TableRow, Tableau, row_of, value_of}
 use Rattle.lex_simplex.proofs.CellReading.{row_of-cells}
-use Rattle.lex_simplex.proofs.RowLists.{get_or-default}
+use Rattle.lex_simplex.proofs.TableauRows.{row_of-fits}
 
 -- ---- general
 
@@ -29,7 +30,7 @@ pub HasProblem-den : (columns : List ℕ) (rows : List (List ℤ)) (i : ℕ) (ce
 HasProblem-den columns rows i cells h l is =
     let t : Tableau = tableau_in rows columns in
     let below : i < length t.rows = omega (arith, HasProblem-long t h) in
-    let fits : IsTableRow h.0.vars (row_of t i) = h.2.rows_fit i (record { den = pos 1; constant = pos 0; coefs = [] }) below in
+    let fits : IsTableRow h.0.vars (row_of t i) = row_of-fits h.0 t i h.2 below in
     subst (λ (row : TableRow). pos 0 <ℤ row.den) (row_of-cells columns rows i below ∙ ap row_in (sym is)) fits.den_pos
 
 -- one more variable's value
@@ -45,4 +46,4 @@ values-more columns rows i cells f fs now h l is here so_far done =
 pub cost_den : (columns : List ℕ) (rows : List (List ℤ)) (cells : List ℤ) (den : ℤ) → AreCells columns rows → cells ≡ get_or rows 0 [] → den ≡ get_or cells 0 den → den ≡ (tableau_in rows columns).cost.den
 cost_den columns rows cells den fit is read =
     let wide : length cells ≡ length columns + 2 = ap length is ∙ fit.wide 0 [] fit.some in
-    read ∙ get_or-default cells 0 den (pos 0) (omega (arith, wide)) ∙ ap (λ l. get_or l 0 (pos 0)) is
+    read ∙ get_or_default cells 0 den (pos 0) (omega (arith, wide)) ∙ ap (λ l. get_or l 0 (pos 0)) is

@@ -1,32 +1,29 @@
 -- The walk down two columns' ratios to the first place where they differ.
 use Rattle.std.specs.Ordering.{int_cmp}
 use Rattle.std.proofs.lemmas.List.{get_or-map, get_or-take, length-take, length-map}
-use Rattle.std.proofs.Common.{◌≡◌, ℕ, zero, suc, ◌+◌, ◌<◌, ◌≤◌, length, get_or, take, drop, map, Bool, true, false, List, [], ◌∷◌, ℤ, ◌*ℤ◌, Ordering, Less, Equal, Greater, refl, sym, ap, ap₂, ◌∙◌, arith, add-one}
+use Rattle.std.proofs.Common.{◌≡◌, ℕ, zero, suc, ◌+◌, ◌<◌, ◌≤◌, length, get_or, take, drop, Bool, true, false, List, [], ◌∷◌, ℤ, ◌*ℤ◌, Ordering, Less, Equal, Greater, refl, sym, ap, ap₂, ◌∙◌, arith, add-one}
 use Rattle.integers.specs.Fraction.{over}
 use Rattle.lex_simplex.specs.Cells.{AreCells, row_in, tableau_in}
 use Rattle.lex_simplex.specs.State.{HasProblem}
 use Rattle.lex_simplex.specs.Tableau.{Tableau, TableRow, ordering_rows, row_of, entry}
 use Rattle.lex_simplex.specs.Turn.{ratios, comes_before}
 use Rattle.lex_simplex.proofs.CellReading.{length-cells, ordering-cells}
+use Rattle.lex_simplex.proofs.TableauRows.{column_in}
 
 -- ---- lists of ratios
-
--- the column e over some rows
-abbrev column_over : List TableRow → ℕ → List ℤ
-column_over rows e = map (λ (row : TableRow). entry row e) rows
 
 -- what comes before by one comparison, and by what is left where that finds no difference
 abbrev pub decided : Ordering → Bool → Bool
 decided o rest = elim o [ Less ↦ true | Equal ↦ rest | Greater ↦ false ]
 
 -- the row at a place decides, or what is left behind it
-comes_before-drop : (rows : List TableRow) (e f : ℕ) (a b : ℤ) (i : ℕ) (d : TableRow) → i < length rows → comes_before (drop i (over (column_over rows e) a)) (drop i (over (column_over rows f) b)) ≡ decided (int_cmp (entry (get_or rows i d) e *ℤ b) (entry (get_or rows i d) f *ℤ a)) (comes_before (drop (suc i) (over (column_over rows e) a)) (drop (suc i) (over (column_over rows f) b)))
+comes_before-drop : (rows : List TableRow) (e f : ℕ) (a b : ℤ) (i : ℕ) (d : TableRow) → i < length rows → comes_before (drop i (over (column_in rows e) a)) (drop i (over (column_in rows f) b)) ≡ decided (int_cmp (entry (get_or rows i d) e *ℤ b) (entry (get_or rows i d) f *ℤ a)) (comes_before (drop (suc i) (over (column_in rows e) a)) (drop (suc i) (over (column_in rows f) b)))
 comes_before-drop [] e f a b i d h = absurd (omega arith)
 comes_before-drop (row ∷ rows) e f a b zero d h = refl
 comes_before-drop (row ∷ rows) e f a b (suc i) d h = comes_before-drop rows e f a b i d (omega arith)
 
 -- behind the last row nothing is left
-comes_before-end : (rows : List TableRow) (e f : ℕ) (a b : ℤ) (i : ℕ) → length rows ≤ i → comes_before (drop i (over (column_over rows e) a)) (drop i (over (column_over rows f) b)) ≡ false
+comes_before-end : (rows : List TableRow) (e f : ℕ) (a b : ℤ) (i : ℕ) → length rows ≤ i → comes_before (drop i (over (column_in rows e) a)) (drop i (over (column_in rows f) b)) ≡ false
 comes_before-end [] e f a b zero h = refl
 comes_before-end [] e f a b (suc i) h = refl
 comes_before-end (row ∷ rows) e f a b zero h = absurd (omega arith)
@@ -35,12 +32,8 @@ comes_before-end (row ∷ rows) e f a b (suc i) h = comes_before-end rows e f a 
 -- ---- the rows of the cells
 
 -- there are more rows than columns
-more_rows : (columns : List ℕ) (rows : List (List ℤ)) → AreCells columns rows → HasProblem (tableau_in rows columns) → length columns < length rows
+pub more_rows : (columns : List ℕ) (rows : List (List ℤ)) → AreCells columns rows → HasProblem (tableau_in rows columns) → length columns < length rows
 more_rows columns rows cells h = omega (arith, length-cells columns rows cells, h.2.one_row_each, h.2.one_column_each)
-
--- the cells of a column stand within each row that orders columns
-pub column_within : (columns : List ℕ) (rows : List (List ℤ)) (i e : ℕ) (cells : List ℤ) → AreCells columns rows → HasProblem (tableau_in rows columns) → i ≤ length columns → cells ≡ get_or rows i [] → e < length columns → e + 2 < length cells
-column_within columns rows i e cells are problem h is below = omega (arith, ap length is, are.wide i [] (omega (arith, more_rows columns rows are problem)))
 
 -- the row that orders columns at a place
 ordering_row : (columns : List ℕ) (rows : List (List ℤ)) (i : ℕ) (d : TableRow) → AreCells columns rows → length columns < length rows → i ≤ length columns → get_or (ordering_rows (tableau_in rows columns)) i d ≡ row_in (get_or rows i [])

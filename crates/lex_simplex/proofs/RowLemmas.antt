@@ -2,37 +2,18 @@
 use lib.IntN.{*ℤ_comm}
 use Rattle.std.proofs.Math.Nat.{pos_of_dvd_of_pos}
 use Rattle.std.proofs.lemmas.List.{length-set, get_or-set_same, get_or-set_other}
-use Rattle.std.proofs.Common.{◌≡◌, ◌≢◌, ℕ, zero, suc, ◌<◌, length, get_or, set, List, [], ◌∷◌, ℤ, pos, negsuc, ◌-ℤ◌, ◌*ℤ◌, neg_ℤ, ◌<ℤ◌, unsigned_abs, refl, sym, ap, ap₂, subst, ◌∙◌, arith}
+use Rattle.std.proofs.Common.{◌≡◌, ◌≢◌, ℕ, ◌<◌, length, get_or, set, List, [], ◌∷◌, ℤ, pos, ◌-ℤ◌, ◌*ℤ◌, ◌<ℤ◌, unsigned_abs, refl, sym, ap, ap₂, subst, ◌∙◌, arith}
 use Rattle.integers.specs.Divisibility.{DividesAll, common_divisor, divisor_of_all}
 use Rattle.integers.specs.Vector.{scale, row_step}
-use Rattle.integers.proofs.Divisibility.{DividesAll-cons, IsGcdOfAll-divisor_of_all, int_div-mul_cancel, scale-quotients}
+use Rattle.integers.proofs.Divisibility.{DividesAll-cons, IsGcdOfAll-divisor_of_all, int_div-mul_cancel, scale-quotients, unsigned_abs_pos}
 use Rattle.integers.proofs.Gcd.{IsGcd-common_divisor}
 use Rattle.integers.proofs.Laws.{lin}
 use Rattle.integers.proofs.Order.{mul_pos, pos_of_mul}
-use Rattle.integers.proofs.Ring.{neg, ◌⊖◌, ◌⊗◌, ◌≗◌, ◌✶◌, ◌⇐◌, ring2, ring3, ring5, combine4, combine7, combine9}
-use Rattle.integers.proofs.VectorLaws.{length-row_step, length-scale, get_or-row_step, get_or-scale, scale-scale}
+use Rattle.integers.proofs.Ring.{neg, ◌⊖◌, ◌⊗◌, ◌≗◌, ◌✶◌, ◌⇐◌, combine4, combine7, combine9}
+use Rattle.integers.proofs.VectorLaws.{length-row_step, length-scale, get_or-row_step, get_or-scale, scale-scale, scale-row_step, scale-set}
 use Rattle.lex_simplex.specs.Equations.{IsTableRow}
 use Rattle.lex_simplex.specs.Tableau.{TableRow, entry}
 use Rattle.lex_simplex.specs.Turn.{row_factor, pivot_factor, stepped, reduced, next_row}
-
--- ---- general
-
--- a positive number has a positive absolute value
-unsigned_abs_pos : (a : ℤ) → pos 0 <ℤ a → 0 < unsigned_abs a
-unsigned_abs_pos (pos n) p = omega (arith, lin)
-unsigned_abs_pos (negsuc n) p = absurd p.lt
-
--- a multiple of a changed list
-scale-set : (c : ℤ) (xs : List ℤ) (i : ℕ) (a : ℤ) → scale c (set xs i a) ≡ set (scale c xs) i (c *ℤ a)
-scale-set c [] i a = refl
-scale-set c (x ∷ xs) zero a = refl
-scale-set c (x ∷ xs) (suc i) a = ap (λ zs. (c *ℤ x) ∷ zs) (scale-set c xs i a)
-
--- a multiple of a row step takes both factors as often
-scale-row_step : (c p q : ℤ) (xs ys : List ℤ) → scale c (row_step p q xs ys) ≡ row_step (p *ℤ c) (q *ℤ c) xs ys
-scale-row_step c p q [] ys = scale-scale c (neg_ℤ q) ys ∙ ap (λ z. scale z ys) (ring2 (λ c q. c ⊗ neg q ≗ neg (q ⊗ c)) refl c q)
-scale-row_step c p q (x ∷ xs) [] = ap₂ (λ z zs. z ∷ zs) (ring3 (λ c p x. c ⊗ (p ⊗ x) ≗ (p ⊗ c) ⊗ x) refl c p x) (scale-scale c p xs ∙ ap (λ z. scale z xs) (*ℤ_comm c p))
-scale-row_step c p q (x ∷ xs) (y ∷ ys) = ap₂ (λ z zs. z ∷ zs) (ring5 (λ c p q x y. c ⊗ (p ⊗ x ⊖ q ⊗ y) ≗ (p ⊗ c) ⊗ x ⊖ (q ⊗ c) ⊗ y) refl c p q x y) (scale-row_step c p q xs ys)
 
 -- ---- the factors
 

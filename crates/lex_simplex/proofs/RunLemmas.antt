@@ -3,22 +3,22 @@ use Rattle.std.specs.List.Sorted.{IsStrictlyIncreasing}
 use Rattle.std.proofs.lemmas.List.Elements.{All-nil, All-cons}
 use Rattle.std.proofs.lemmas.List.Kept.{AllPairs-cons}
 use Rattle.std.proofs.Common.{◌≡◌, ◌≢◌, ℕ, zero, suc, ◌<◌, length, List, [], ◌∷◌, All, AllPairs, Result, refl, sym, ap, ap₂, subst, ◌∙◌, arith}
-use Rattle.frac128.specs.Problem.{ProblemData, IsProblem}
 use Rattle.integers.specs.Counting.{choose}
 use Rattle.integers.specs.Lexicographic.{LexLess}
 use Rattle.integers.proofs.LexOrder.{LexLess-trans, LexLess-not_same}
 use Rattle.integers.proofs.Counting.{distinct_choices_at_most}
+use Rattle.frac128.specs.Problem.{ProblemData, IsProblem}
 use Rattle.lex_simplex.specs.Bound.{choices_of, turns_within, turns_to_go}
 use Rattle.lex_simplex.specs.Columns.{column_set}
 use Rattle.lex_simplex.specs.Equations.{IsTableauOf}
 use Rattle.lex_simplex.specs.Tableau.{Tableau, start, values}
-use Rattle.lex_simplex.specs.Turn.{turn, next, ended, Turns, IsRunFrom, IsRun}
+use Rattle.lex_simplex.specs.Turn.{turn, next, Turns, IsRunFrom, IsRun}
 use Rattle.lex_simplex.specs.declared.end.End.{End}
 use Rattle.lex_simplex.specs.declared.end.PivotFault.{PivotFault}
 use Rattle.lex_simplex.proofs.ColumnLemmas.{column_set_is_choice, same_columns_same_values}
 use Rattle.lex_simplex.proofs.PivotLemmas.{pivoted_is}
-pub use Rattle.lex_simplex.proofs.RunSteps.{Turns-append_one, Turns-append, run_turns, run_ends, run_next, run_is_one, run_within}
-use Rattle.lex_simplex.proofs.RunSteps.{turns_within-ended, turns_within-next, turns_within-made, turns_within-more}
+use Rattle.lex_simplex.proofs.RunSteps.{Turns-append_one, run_is_one, run_within}
+use Rattle.lex_simplex.proofs.RunSteps.{turns_within-next, turns_within-made, turns_within-more}
 use Rattle.lex_simplex.proofs.StartLemmas.{start_is}
 use Rattle.lex_simplex.proofs.TurnLemmas.{turn_next}
 use Rattle.lex_simplex.proofs.ValuesLemmas.{AreFractions-values, values_rise}
@@ -120,20 +120,6 @@ turns_to_go_falls p t s ok e = let n = turns_to_go-next p t s ok e in omega arit
 -- each run ends
 pub run_exists : (p : ProblemData) (t : Tableau) → IsTableauOf p t → (end : Result End PivotFault) × (n : ℕ) × IsRunFrom t end n
 run_exists p t ok = run_within (choices_of t) t (λ n s h. turns_are_few p n t s ok h)
-
--- ---- at the end
-
--- at the end of a run there is no turn to go
-pub turns_to_go-ended : (t : Tableau) (e : Result End PivotFault) → turn t ≡ ended e → turns_to_go t ≡ 0
-turns_to_go-ended t e h = turns_within-ended (choices_of t) t e h
-
--- a run takes the turns to go
-pub run_length : (p : ProblemData) (t : Tableau) (e : Result End PivotFault) (n : ℕ) → IsTableauOf p t → IsRunFrom t e n → n ≡ turns_to_go t
-run_length p t e n ok run = along n t ok run.turns
-  where
-    along : (n : ℕ) (t : Tableau) → IsTableauOf p t → Turns n t run.last → n ≡ turns_to_go t
-    along zero t ok h = sym (turns_to_go-ended t e (ap turn h ∙ run.ends))
-    along (suc n) t ok h = ap suc (along n h.0 (next_is p t h.0 ok h.1) h.2) ∙ sym (turns_to_go-next p t h.0 ok h.1)
 
 -- ---- runs of a problem
 

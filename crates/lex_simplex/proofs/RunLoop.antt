@@ -1,21 +1,32 @@
 -- Turns until an end, one at a time.
-use Rattle.std.proofs.Common.{◌≡◌, ℕ, suc, ◌<◌, ◌^◌, List, ℤ, Result, Ok, Err, IfOk, length, ◌+◌, refl, sym, ap, ap₂, subst, ◌∙◌, arith}
+use Rattle.std.proofs.Common.{◌≡◌, ℕ, suc, ◌<◌, ◌^◌, List, ℤ, Result, Ok, Err, IfOk, length, refl, sym, ap, ap₂, subst, ◌∙◌, arith}
+use Rattle.std.proofs.lemmas.Result.{on_ok_weaker}
+use Rattle.frac128.specs.Problem.{ProblemData}
 use Rattle.lex_simplex.specs.Cells.{AreCells, tableau_in}
 use Rattle.lex_simplex.specs.Count.{raised}
 use Rattle.lex_simplex.specs.Run.{AreTurnsMade, IsRunMade}
-use Rattle.lex_simplex.specs.State.{HasProblem, IsRunning}
+use Rattle.lex_simplex.specs.State.{IsRunning}
 use Rattle.lex_simplex.specs.Tableau.{Tableau}
 use Rattle.lex_simplex.specs.Turn.{turn, next, ended}
 use Rattle.lex_simplex.specs.Turned.{IsTurned}
 use Rattle.lex_simplex.specs.declared.end.End.{End}
 use Rattle.lex_simplex.specs.declared.end.PivotFault.{PivotFault}
 use Rattle.lex_simplex.specs.declared.turn.Turned.TheVariants.{Ended}
-use Rattle.lex_simplex.proofs.CountLemmas.{raised-zero, raised-one}
-use Rattle.lex_simplex.proofs.RunLemmas.{next_is, turns_are}
-use Rattle.lex_simplex.proofs.Results.{IfOk-map}
-use Rattle.frac128.specs.Problem.{ProblemData}
 use Rattle.lex_simplex.specs.Equations.{IsTableauOf}
-use Rattle.lex_simplex.proofs.RunSteps.{Turns-append_one, run_ends}
+use Rattle.lex_simplex.proofs.RunLemmas.{next_is, turns_are}
+use Rattle.lex_simplex.proofs.RunSteps.{Turns-append_one}
+
+-- ---- counts that stay at the greatest 64-bit number
+
+-- none more
+pub raised-zero : (count : ℕ) → count < 2 ^ 64 → count ≡ raised count 0
+raised-zero count h = omega (arith, h)
+
+-- one more after some more
+pub raised-one : (count more : ℕ) → raised (raised count more) 1 ≡ raised count (suc more)
+raised-one count more = omega arith
+
+-- ---- turns
 
 -- no turns
 pub AreTurnsMade-none : (t : Tableau) (count : ℕ) → count < 2 ^ 64 → AreTurnsMade t count t count
@@ -55,4 +66,4 @@ IsRunning-next columns new_columns rows new_rows room new_room running is cells 
 
 -- the last tableau is one of the same problem
 pub IsRunMade-same_problem : (p : ProblemData) (before after : Tableau) (count now : ℕ) (end : Result End PivotFault) → IsRunMade before count end after now → IsTableauOf p before → IfOk end (λ _. IsTableauOf p after)
-IsRunMade-same_problem p before after count now end made is = IfOk-map end (λ e same. subst (IsTableauOf p) (sym same) (turns_are p made.pivots before made.run.last is made.run.turns)) made.last
+IsRunMade-same_problem p before after count now end made is = on_ok_weaker end (λ same. subst (IsTableauOf p) (sym same) (turns_are p made.pivots before made.run.last is made.run.turns)) made.last

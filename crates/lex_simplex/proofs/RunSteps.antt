@@ -1,5 +1,5 @@
 -- Turns one after the other, and the runs that they make, from any tableau on.
-use Rattle.std.proofs.Common.{◌≡◌, ◌≢◌, ℕ, zero, suc, ◌+◌, ◌<◌, Result, refl, sym, ap, subst, zero-add, suc-add, ◌∙◌, arith}
+use Rattle.std.proofs.Common.{◌≡◌, ◌≢◌, ℕ, zero, suc, ◌<◌, Result, refl, sym, ap, subst, ◌∙◌, arith}
 use Rattle.lex_simplex.specs.Bound.{turns_within}
 use Rattle.lex_simplex.specs.Tableau.{Tableau}
 use Rattle.lex_simplex.specs.Turn.{Turn, turn, next, ended, Turns, IsRunFrom}
@@ -12,23 +12,6 @@ use Rattle.lex_simplex.specs.declared.end.PivotFault.{PivotFault}
 pub Turns-append_one : (k : ℕ) (t s u : Tableau) → Turns k t s → turn s ≡ next u → Turns (suc k) t u
 Turns-append_one zero t s u h e = (u, ap turn h ∙ e, refl)
 Turns-append_one (suc k) t s u h e = (h.0, h.1, Turns-append_one k h.0 s u h.2 e)
-
--- turns, and then others
-pub Turns-append : (k n : ℕ) (t s u : Tableau) → Turns k t s → Turns n s u → Turns (k + n) t u
-Turns-append zero n t s u h g = subst (λ m. Turns m t u) (sym (zero-add n)) (subst (λ v. Turns n v u) (sym h) g)
-Turns-append (suc k) n t s u h g = subst (λ m. Turns m t u) (sym (suc-add k n)) (h.0, h.1, Turns-append k n h.0 s u h.2 g)
-
--- turns before a run belong to it
-pub run_turns : (t s : Tableau) (k n : ℕ) (e : Result End PivotFault) → Turns k t s → IsRunFrom s e n → IsRunFrom t e (k + n)
-run_turns t s k n e h run = record { last = run.last; turns = Turns-append k n t s run.last h run.turns; ends = run.ends }
-
--- turns and then the end are a run
-pub run_ends : (k : ℕ) (t s : Tableau) (e : Result End PivotFault) → Turns k t s → turn s ≡ ended e → IsRunFrom t e k
-run_ends k t s e h end = record { last = s; turns = h; ends = end }
-
--- a turn and then a run are a run
-pub run_next : (t s : Tableau) (e : Result End PivotFault) (n : ℕ) → turn t ≡ next s → IsRunFrom s e n → IsRunFrom t e (suc n)
-run_next t s e n h run = record { last = run.last; turns = (s, h, run.turns); ends = run.ends }
 
 -- ---- one run
 

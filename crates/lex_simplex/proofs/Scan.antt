@@ -1,11 +1,12 @@
 -- A scan of the columns for the pivot column: the least column with a positive number among the first k.
 use Rattle.std.proofs.lemmas.Bool.{cases_eq}
 use Rattle.std.proofs.lemmas.Int.{ints, by_lt_z}
-use Rattle.std.proofs.Common.{◌≡◌, ◌≢◌, ◌⊎◌, inl, inr, ℕ, zero, suc, ◌+◌, ◌<◌, ◌≤◌, length, pos, ◌≤ℤ◌, ◌<ℤ◌, subst, sym, arith}
-use Rattle.frac128.specs.Problem.{ProblemData}
+use Rattle.std.proofs.Common.{◌≡◌, ◌≢◌, ◌⊎◌, inl, inr, ℕ, zero, suc, ◌+◌, ◌<◌, ◌≤◌, length, pos, ◌≤ℤ◌, ◌<ℤ◌, subst, sym, arith, below_more}
+use Rattle.std.proofs.Math.Nat.{eq-or-lt_of_le}
 use Rattle.integers.specs.Fraction.{SameFractions}
 use Rattle.integers.specs.Lexicographic.{LexLess}
 use Rattle.integers.proofs.LexOrder.{LexLess-cases, LexLess-trans}
+use Rattle.frac128.specs.Problem.{ProblemData}
 use Rattle.lex_simplex.specs.Equations.{IsTableauOf}
 use Rattle.lex_simplex.specs.Pivot.{IsEntering}
 use Rattle.lex_simplex.specs.Tableau.{Tableau, row_of, entry}
@@ -25,21 +26,9 @@ pub record IsLeastSoFar (t : Tableau) (r k e : ℕ) : Type 0 where
 
 -- ---- a step
 
--- a place among the first k + 1 is the last of them or among the first k
-last_or_before : (f k : ℕ) → f < k + 1 → (f ≡ k) ⊎ (f < k)
-last_or_before f k h = step (cases_eq f k)
-  where
-    step : (f ≡ k) ⊎ (f ≢ k) → (f ≡ k) ⊎ (f < k)
-    step (inl e) = inl e
-    step (inr n) = inr (omega arith)
-
 -- a column whose number is not positive, after such columns
 pub IsNonePositive-more : (t : Tableau) (r k : ℕ) → IsNonePositive t r k → entry (row_of t r) k ≤ℤ pos 0 → IsNonePositive t r (k + 1)
-IsNonePositive-more t r k h n f below = step (last_or_before f k below)
-  where
-    step : (f ≡ k) ⊎ (f < k) → entry (row_of t r) f ≤ℤ pos 0
-    step (inl e) = subst (λ m. entry (row_of t r) m ≤ℤ pos 0) (sym e) n
-    step (inr l) = h f l
+IsNonePositive-more t r k h n = below_more (λ f. entry (row_of t r) f ≤ℤ pos 0) k h n
 
 -- the first column with a positive number is the least so far
 pub IsLeastSoFar-first : (t : Tableau) (r k : ℕ) → IsNonePositive t r k → pos 0 <ℤ entry (row_of t r) k → IsLeastSoFar t r (k + 1) k
@@ -51,7 +40,7 @@ IsLeastSoFar-first t r k h p = record {
 
 -- a column whose number is not positive changes nothing
 pub IsLeastSoFar-skip : (t : Tableau) (r k e : ℕ) → IsLeastSoFar t r k e → entry (row_of t r) k ≤ℤ pos 0 → IsLeastSoFar t r (k + 1) e
-IsLeastSoFar-skip t r k e h n = record { below = omega (arith, h.below); positive = h.positive; least = λ f below apart q. step f apart q (last_or_before f k below) }
+IsLeastSoFar-skip t r k e h n = record { below = omega (arith, h.below); positive = h.positive; least = λ f below apart q. step f apart q (eq-or-lt_of_le (omega arith)) }
   where
     step : (f : ℕ) → f ≢ e → pos 0 <ℤ entry (row_of t r) f → (f ≡ k) ⊎ (f < k) → LexLess (ratios t r e) (ratios t r f)
     step f apart q (inl s) = let n' = subst (λ m. entry (row_of t r) m ≤ℤ pos 0) (sym s) n in absurd (omega (arith, ints))
@@ -59,7 +48,7 @@ IsLeastSoFar-skip t r k e h n = record { below = omega (arith, h.below); positiv
 
 -- a column whose ratios come after those of the least so far changes nothing
 pub IsLeastSoFar-keep : (t : Tableau) (r k e : ℕ) → IsLeastSoFar t r k e → LexLess (ratios t r e) (ratios t r k) → IsLeastSoFar t r (k + 1) e
-IsLeastSoFar-keep t r k e h before = record { below = omega (arith, h.below); positive = h.positive; least = λ f below apart q. step f apart q (last_or_before f k below) }
+IsLeastSoFar-keep t r k e h before = record { below = omega (arith, h.below); positive = h.positive; least = λ f below apart q. step f apart q (eq-or-lt_of_le (omega arith)) }
   where
     step : (f : ℕ) → f ≢ e → pos 0 <ℤ entry (row_of t r) f → (f ≡ k) ⊎ (f < k) → LexLess (ratios t r e) (ratios t r f)
     step f apart q (inl s) = subst (λ m. LexLess (ratios t r e) (ratios t r m)) (sym s) before

@@ -2,35 +2,23 @@
 use lib.IntN.{zero-*ℤ}
 use Rattle.std.proofs.Math.Nat.{eq-or-lt_of_le}
 use Rattle.std.proofs.lemmas.Int.{by_lt_z}
-use Rattle.std.proofs.lemmas.List.{length-append, length-map, length-replicate, get_or-map, get_or_append_left, get_or-set_same, get_or-set_other, take_at, ext_get_or}
+use Rattle.std.proofs.lemmas.List.{length-append, length-map, get_or-map, get_or_append_left, take_at, ext_get_or}
 use Rattle.std.proofs.lemmas.List.Elements.{All-append, All-from_get_or, All-get_or, All-map, All-weaker}
-use Rattle.std.proofs.Common.{◌≡◌, ◌⊎◌, inl, inr, ℕ, zero, suc, ◌+◌, ◌<◌, ◌≤◌, length, get_or, replicate, take, map, List, [], ◌∷◌, ◌++◌, ℤ, pos, ◌≤ℤ◌, ◌<ℤ◌, refl, sym, ap, ap₂, subst, ◌∙◌, arith}
+use Rattle.std.proofs.Common.{◌≡◌, ◌⊎◌, inl, inr, ℕ, zero, suc, ◌+◌, ◌<◌, ◌≤◌, length, get_or, take, map, List, [], ◌∷◌, ◌++◌, ℤ, pos, ◌≤ℤ◌, ◌<ℤ◌, refl, sym, ap, ap₂, subst, ◌∙◌, arith}
 use Rattle.std.specs.Int.Signed.{lt_z_yes}
 use Rattle.std.specs.Prelude.{All}
-use Rattle.frac128.specs.Problem.{ProblemData, IsProblem, IsRow}
-use Rattle.frac128.specs.declared.problem.Row.{Row}
-use Rattle.frac128.proofs.Combination.{get_or-zeros}
 use Rattle.integers.specs.Counting.{numbers_from}
 use Rattle.integers.specs.Lexicographic.{IsLexPositive}
 use Rattle.integers.specs.Vector.{dot, unit_vector, AreZero}
 use Rattle.integers.proofs.Laws.{lin, one-*ℤ}
 use Rattle.integers.proofs.Ring.{con, neg, ◌⊕◌, ◌⊖◌, ◌⊗◌, ◌≗◌, ring2, ring3}
-use Rattle.integers.proofs.Vector.{dot_comm, dot-unit_vector, length-unit_vector}
+use Rattle.integers.proofs.Vector.{dot_comm, dot-unit_vector, length-unit_vector, get_or-unit_vector, get_or-unit_vector_other}
+use Rattle.integers.proofs.Numbers.{get_or-numbers_from, length-numbers_from}
+use Rattle.frac128.specs.Problem.{ProblemData, IsProblem, IsRow}
+use Rattle.frac128.specs.declared.problem.Row.{Row}
 use Rattle.lex_simplex.specs.Equations.{surplus, quantities, in_columns, Holds, AllHold, IsTableRow, IsTableauOf}
 use Rattle.lex_simplex.specs.Tableau.{TableRow, start, variable_row, surplus_row, entry, column}
-
--- ---- general
-
--- n numbers in a row are n
-pub length-numbers_from : (a n : ℕ) → length (numbers_from a n) ≡ n
-length-numbers_from a zero = refl
-length-numbers_from a (suc n) = ap suc (length-numbers_from (suc a) n)
-
--- the number at a place
-pub get_or-numbers_from : (a n i d : ℕ) → i < n → get_or (numbers_from a n) i d ≡ a + i
-get_or-numbers_from a zero i d h = absurd (omega arith)
-get_or-numbers_from a (suc n) zero d h = omega arith
-get_or-numbers_from a (suc n) (suc i) d h = let ih = get_or-numbers_from (suc a) n i d (omega arith) in omega arith
+use Rattle.lex_simplex.proofs.TableauRows.{AllHold-append, AllHold-from_at}
 
 -- ---- the variables' rows
 
@@ -58,20 +46,6 @@ in_columns-start x ys n e =
     ext_get_or (pos 0) (map f (numbers_from 0 n)) x wide (λ i h. get_or-map f (numbers_from 0 n) i 0 (pos 0) (omega (arith, length-numbers_from 0 n)) ∙ ap f (get_or-numbers_from 0 n i 0 (omega arith) ∙ omega arith) ∙ get_or_append_left x ys (pos 0) i (omega arith))
 
 -- ---- the equations
-
--- equations one after the other
-pub AllHold-append : (us : List ℤ) (n : ℤ) (qs rs : List ℤ) (rows others : List TableRow) → AllHold qs us n rows → AllHold rs us n others → AllHold (qs ++ rs) us n (rows ++ others)
-AllHold-append us n [] rs [] others h k = k
-AllHold-append us n [] rs (row ∷ rows) others h k = absurd h
-AllHold-append us n (q ∷ qs) rs [] others h k = absurd h
-AllHold-append us n (q ∷ qs) rs (row ∷ rows) others h k = (h.0, AllHold-append us n qs rs rows others h.1 k)
-
--- equations from those at each place
-pub AllHold-from_at : (us : List ℤ) (n : ℤ) (d : TableRow) (qs : List ℤ) (rows : List TableRow) → length qs ≡ length rows → ((i : ℕ) → i < length rows → Holds (get_or qs i (pos 0)) us n (get_or rows i d)) → AllHold qs us n rows
-AllHold-from_at us n d [] [] e h = tt
-AllHold-from_at us n d [] (row ∷ rows) e h = absurd (omega arith)
-AllHold-from_at us n d (q ∷ qs) [] e h = absurd (omega arith)
-AllHold-from_at us n d (q ∷ qs) (row ∷ rows) e h = (h 0 (omega arith), AllHold-from_at us n d qs rows (omega arith) (λ i l. h (suc i) (omega arith)))
 
 -- a variable's equation
 variable_row-holds : (vars j : ℕ) (x : List ℤ) (n : ℤ) → j < vars → Holds (get_or x j (pos 0)) x n (variable_row vars j)
@@ -104,8 +78,8 @@ variable_column-positive vars a zero e below l h = absurd (omega arith)
 variable_column-positive vars a (suc n) e below l h = step (eq-or-lt_of_le l) (λ k. variable_column-positive vars (suc a) n e below k (omega arith))
   where
     step : (a ≡ e) ⊎ a < e → (a < e → IsLexPositive (map (λ (row : TableRow). entry row e) (map (variable_row vars) (numbers_from (suc a) n)))) → IsLexPositive (entry (variable_row vars a) e ∷ map (λ (row : TableRow). entry row e) (map (variable_row vars) (numbers_from (suc a) n)))
-    step (inl same) rest = inl (subst (λ z. pos 0 <ℤ z) (sym (subst (λ b. get_or (unit_vector vars b) e (pos 0) ≡ pos 1) (sym same) (get_or-set_same (replicate vars (pos 0)) e (pos 1) (pos 0) (omega (arith, length-replicate vars (pos 0)))))) (lt_z_yes tt))
-    step (inr before) rest = inr (get_or-set_other (replicate vars (pos 0)) a e (pos 1) (pos 0) (λ same. absurd (omega arith)) ∙ get_or-zeros vars e, rest before)
+    step (inl same) rest = inl (subst (λ z. pos 0 <ℤ z) (sym (subst (λ b. get_or (unit_vector vars b) e (pos 0) ≡ pos 1) (sym same) (get_or-unit_vector vars e below))) (lt_z_yes tt))
+    step (inr before) rest = inr (get_or-unit_vector_other vars a e (λ same. absurd (omega arith)), rest before)
 
 -- the columns are lexicographically positive
 start-column_positive : (p : ProblemData) → IsProblem p → (e : ℕ) → e < p.vars → IsLexPositive (column (start p) e)

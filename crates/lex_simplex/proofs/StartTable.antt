@@ -1,19 +1,23 @@
 -- The cells of a problem's first table.
+use lib.ListN.{length-replicate}
 use Rattle.std.proofs.Math.Nat.{suc-mul, zero-mul, mul-div_cancel}
 use Rattle.std.proofs.lemmas.List.{append_assoc, map-append}
 use Rattle.std.proofs.lemmas.List.Elements.{All-nil, All-cons, All-head, All-tail}
-use Rattle.std.proofs.Common.{◌≡◌, ℕ, zero, suc, ◌+◌, ◌*◌, ◌/◌, ◌<◌, ◌≤◌, length, get_or, map, take, drop, All, List, [], ◌∷◌, ◌++◌, ℤ, pos, replicate, refl, sym, ap, ap₂, subst, subst₂, ◌∙◌, arith, length-append}
-use Rattle.frac128.specs.Problem.{ProblemData, IsProblem, IsRow}
-use Rattle.frac128.specs.declared.problem.Row.{Row}
+use Rattle.std.proofs.Common.{◌≡◌, ℕ, ◌+◌, ◌*◌, ◌/◌, ◌<◌, ◌≤◌, length, map, All, List, [], ◌∷◌, ◌++◌, ℤ, pos, replicate, refl, sym, ap, ap₂, subst, subst₂, ◌∙◌, arith, length-append, ◌-◌}
+use Rattle.std.proofs.lemmas.Simd.{map-map}
 use Rattle.integers.specs.Counting.{numbers_from}
+use Rattle.integers.proofs.Numbers.{length-numbers_from, numbers_from-next}
+use Rattle.integers.proofs.Vector.{unit_vector-parts}
+use Rattle.frac128.specs.Problem.{ProblemData, IsProblem}
+use Rattle.frac128.specs.declared.problem.Row.{Row}
 use Rattle.lex_simplex.specs.Cells.{AreCells, cells_of, joined, row_in, rows_in, tableau_in}
 use Rattle.lex_simplex.specs.Equations.{IsTableRow}
 use Rattle.lex_simplex.specs.State.{HasProblem, IsRunning}
-use lib.ListN.{length-replicate}
 use Rattle.lex_simplex.specs.Tableau.{TableRow, Tableau, start, variable_row, surplus_row}
-use Rattle.lex_simplex.proofs.FirstLemmas.{length-numbers_from}
 use Rattle.lex_simplex.proofs.GridLemmas.{rows_in-append}
 use Rattle.lex_simplex.proofs.StartLemmas.{start_is}
+
+-- ---- a tableau's cells
 
 -- the cells of a tableau's rows
 abbrev pub table_rows : Tableau → List (List ℤ)
@@ -46,11 +50,6 @@ joined-append : {A : Type 0} (rows others : List (List A)) → joined (rows ++ o
 joined-append [] others = refl
 joined-append (row ∷ rows) others = ap (λ l. row ++ l) (joined-append rows others) ∙ sym (append_assoc row (joined rows) (joined others))
 
--- two functions one after the other
-map_twice : {A B C : Type 0} (f : A → B) (g : B → C) (xs : List A) → map g (map f xs) ≡ map (λ x. g (f x)) xs
-map_twice f g [] = refl
-map_twice f g (x ∷ xs) = ap (λ l. g (f x) ∷ l) (map_twice f g xs)
-
 -- rows with a coefficient for each column have so many cells
 cells_wide : (vars : ℕ) (rows : List TableRow) → All (IsTableRow vars) rows → All (λ (row : List ℤ). length row ≡ vars + 2) (map cells_of rows)
 cells_wide vars [] h = All-nil (λ (row : List ℤ). length row ≡ vars + 2)
@@ -59,6 +58,8 @@ cells_wide vars (row ∷ rows) h =
     let wide : length (cells_of row) ≡ vars + 2 = omega (arith, first.one_each) in
     All-cons (λ (row : List ℤ). length row ≡ vars + 2) (cells_of row) (map cells_of rows) wide (cells_wide vars rows (All-tail (IsTableRow vars) row rows h))
 
+-- ---- the first table
+
 -- the cells that are pushed for the cost, the variables and the rows
 pub pushed_cells : (p : ProblemData) (none one two three : List ℤ) → none ≡ [] → one ≡ none ++ (pos 1 ∷ pos 0 ∷ p.cost) → two ≡ one ++ joined (map (λ (j : ℕ). cells_of (variable_row p.vars j)) (numbers_from 0 p.vars)) → three ≡ two ++ joined (map (λ (row : Row). cells_of (surplus_row row)) p.rows) → three ≡ joined (table_rows (start p))
 pushed_cells p none one two three n a b c =
@@ -66,7 +67,7 @@ pushed_cells p none one two three n a b c =
     let variables : List (List ℤ) = map (λ (j : ℕ). cells_of (variable_row p.vars j)) (numbers_from 0 p.vars) in
     let surpluses : List (List ℤ) = map (λ (row : Row). cells_of (surplus_row row)) p.rows in
     let parts : map cells_of (map (variable_row p.vars) (numbers_from 0 p.vars) ++ map surplus_row p.rows) ≡ variables ++ surpluses =
-    map-append cells_of (map (variable_row p.vars) (numbers_from 0 p.vars)) (map surplus_row p.rows) ∙ ap₂ (λ a b. a ++ b) (map_twice (variable_row p.vars) cells_of (numbers_from 0 p.vars)) (map_twice surplus_row cells_of p.rows) in
+    map-append cells_of (map (variable_row p.vars) (numbers_from 0 p.vars)) (map surplus_row p.rows) ∙ ap₂ (λ a b. a ++ b) (map-map cells_of (variable_row p.vars) (numbers_from 0 p.vars)) (map-map cells_of surplus_row p.rows) in
     c ∙ ap (λ l. l ++ joined surpluses) (b ∙ ap (λ l. l ++ joined variables) (a ∙ ap (λ l. l ++ first) n))
     ∙ append_assoc first (joined variables) (joined surpluses)
     ∙ ap (λ l. first ++ l) (sym (joined-append variables surpluses) ∙ ap joined (sym parts))
@@ -130,3 +131,21 @@ pub filled-rows : (p : ProblemData) → IsProblem p → (vars total : ℕ) (cell
 filled-rows p ok vars total cells v t is =
     let counts = start-counts p ok cells is in
     ap₂ (λ n w. rows_in (w + 2) (n / (w + 2)) cells) t v ∙ start-rows p ok cells (length cells / (p.vars + 2)) is counts.2
+
+-- ---- the variables' rows
+
+-- the rows of the variables that are left begin with the next one's
+pub variable_rows-next : (vars i : ℕ) → i < vars → joined (map (λ (j : ℕ). cells_of (variable_row vars j)) (numbers_from i (vars - i))) ≡ cells_of (variable_row vars i) ++ joined (map (λ (j : ℕ). cells_of (variable_row vars j)) (numbers_from (i + 1) (vars - (i + 1))))
+variable_rows-next vars i h = ap (λ ns. joined (map (λ (j : ℕ). cells_of (variable_row vars j)) ns)) (numbers_from-next i vars h)
+
+-- the cells of a variable's row, piece by piece
+pub variable_cells : (vars j : ℕ) (before one two three four five : List ℤ) → j < vars → one ≡ before ++ pos 1 ∷ [] → two ≡ one ++ pos 0 ∷ [] → three ≡ two ++ replicate j (pos 0) → four ≡ three ++ pos 1 ∷ [] → five ≡ four ++ replicate (vars - j - 1) (pos 0) → five ≡ before ++ cells_of (variable_row vars j)
+variable_cells vars j before one two three four five h a b c d e =
+    let zeros : List ℤ = replicate j (pos 0) in
+    let rest : List ℤ = replicate (vars - j - 1) (pos 0) in
+    let front : two ≡ before ++ (pos 1 ∷ pos 0 ∷ []) = b ∙ ap (λ l. l ++ pos 0 ∷ []) a ∙ append_assoc before (pos 1 ∷ []) (pos 0 ∷ []) in
+    e ∙ ap (λ l. l ++ rest) (d ∙ ap (λ l. l ++ pos 1 ∷ []) (c ∙ ap (λ l. l ++ zeros) front))
+    ∙ append_assoc (before ++ (pos 1 ∷ pos 0 ∷ []) ++ zeros) (pos 1 ∷ []) rest
+    ∙ append_assoc (before ++ (pos 1 ∷ pos 0 ∷ [])) zeros (pos 1 ∷ rest)
+    ∙ append_assoc before (pos 1 ∷ pos 0 ∷ []) (zeros ++ (pos 1 ∷ rest))
+    ∙ ap (λ us. before ++ (pos 1 ∷ pos 0 ∷ us)) (sym (unit_vector-parts vars j h))

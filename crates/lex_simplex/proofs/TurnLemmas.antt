@@ -1,14 +1,14 @@
 -- What a turn gives, in words of the pivot row, the pivot column and the range.
 use Rattle.std.specs.List.{list_all}
 use Rattle.std.proofs.lemmas.Bool.{false_from_ne_true}
-use Rattle.std.proofs.Common.{◌≡◌, ℕ, ◌<◌, length, Bool, true, false, pos, ◌≤ℤ◌, All, Some, None, Option, Ok, Err, refl, ap, ◌∙◌}
+use Rattle.std.proofs.Common.{◌≡◌, ℕ, Bool, true, false, pos, ◌≤ℤ◌, All, Some, None, Option, Ok, Err, refl, ap, ◌∙◌}
 use Rattle.frac128.specs.Range.{IsInRange}
 use Rattle.lex_simplex.specs.declared.end.End.TheVariants.{Optimal, Empty}
 use Rattle.lex_simplex.specs.declared.end.PivotFault.TheVariants.{TooWide}
 use Rattle.lex_simplex.specs.Pivot.{IsLeaving, IsEntering}
-use Rattle.lex_simplex.specs.Tableau.{Tableau, TableRow, row_of, entry}
+use Rattle.lex_simplex.specs.Tableau.{Tableau, TableRow}
 use Rattle.lex_simplex.specs.Turn.{Turn, next, ended, leaving, entering, is_in_range, pivoted, pivot_numbers, turn_at, turn_in, turn}
-use Rattle.lex_simplex.proofs.ChoiceLemmas.{in_range-test, leaving-some, leaving-none, entering-is, is-entering, entering-none}
+use Rattle.lex_simplex.proofs.ChoiceLemmas.{in_range-test, leaving-some, leaving-none, entering-is, is-entering}
 
 -- ---- what makes a turn what it is
 
@@ -27,14 +27,6 @@ turn_is_next t r e leaves enters fits = turn_is_pivot t r e leaves enters ∙ ap
 -- a pivot one of whose numbers is out of range ends the run
 pub turn_is_too_wide : (t : Tableau) (r e : ℕ) → IsLeaving t r → IsEntering t r e → ¬ All IsInRange (pivot_numbers t r e) → turn t ≡ ended (Err TooWide)
 turn_is_too_wide t r e leaves enters wide = turn_is_pivot t r e leaves enters ∙ ap (pivot_or_fault t r e) (false_from_ne_true (list_all is_in_range (pivot_numbers t r e)) (λ test. wide ((in_range-test (pivot_numbers t r e)).0 test)))
-
--- a pivot row with no positive number ends the run: there is no point
-pub turn_is_empty : (t : Tableau) (r : ℕ) → IsLeaving t r → ((f : ℕ) → f < length t.columns → entry (row_of t r) f ≤ℤ pos 0) → turn t ≡ ended (Ok Empty)
-turn_is_empty t r leaves none = ap (turn_in t) ((leaving-some t r).1 leaves) ∙ ap (turn_at t r) (entering-none t r none)
-
--- no negative constant ends the run: the point is least
-pub turn_is_optimal : (t : Tableau) → All (λ (row : TableRow). pos 0 ≤ℤ row.constant) t.rows → turn t ≡ ended (Ok Optimal)
-turn_is_optimal t none = ap (turn_in t) ((leaving-none t).1 none)
 
 -- ---- what a turn tells
 

@@ -1,16 +1,16 @@
 -- The row of a quantity that stands in a column.
-use lib.IntN.{*ℤ-zero}
 use Rattle.std.proofs.lemmas.List.Elements.{All-get_or}
-use Rattle.std.proofs.Common.{◌≡◌, ℕ, ◌<◌, length, get_or, List, [], ◌∷◌, ℤ, pos, ◌+ℤ◌, ◌*ℤ◌, ◌<ℤ◌, refl, sym, ap, subst, subst₂, ◌∙◌, arith}
-use Rattle.frac128.specs.Problem.{ProblemData}
+use Rattle.std.proofs.Common.{◌≡◌, ℕ, ◌<◌, length, get_or, List, [], ◌∷◌, ℤ, pos, ◌+ℤ◌, ◌*ℤ◌, ◌<ℤ◌, refl, sym, ap, subst, subst₂, ◌∙◌}
 use Rattle.integers.specs.Vector.{dot, scale, unit_vector}
 use Rattle.integers.proofs.Order.{cancel_eq}
 use Rattle.integers.proofs.Ring.{con, neg, ◌⊕◌, ◌⊗◌, ◌≗◌, ◌✶◌, ◌⇐◌, combine9}
 use Rattle.integers.proofs.Vector.{dot_comm, dot-scale, dot-scale_right, dot-unit_vector, length-unit_vector, same_from_dot}
 use Rattle.integers.proofs.VectorLaws.{get_or-scale, length-scale}
-use Rattle.lex_simplex.specs.Equations.{IsTableRow, IsTableauOf, Holds, in_columns, quantities}
+use Rattle.frac128.specs.Problem.{ProblemData}
+use Rattle.lex_simplex.specs.Equations.{IsTableRow, IsTableauOf, Holds, quantities}
 use Rattle.lex_simplex.specs.Tableau.{TableRow, Tableau, row_of}
-use Rattle.lex_simplex.proofs.BasicPoint.{reach, get_or-in_columns, AllHold-at, column_constant}
+use Rattle.lex_simplex.proofs.BasicPoint.{reach, column_constant}
+use Rattle.lex_simplex.proofs.TableauRows.{get_or-in_columns, row_of-fits, row_of-holds}
 
 -- a row without constant that holds at a multiple of us, for that multiple of the number at j
 unit_product : (coefs us : List ℤ) (v j : ℕ) (den constant k : ℤ) → j < v → pos 0 <ℤ k → constant ≡ pos 0 → den *ℤ (k *ℤ get_or us j (pos 0)) ≡ constant *ℤ (k *ℤ pos 0) +ℤ dot coefs (scale k us) → dot coefs us ≡ dot (scale den (unit_vector v j)) us
@@ -28,14 +28,11 @@ column_coefs p t h j l = same_from_dot row.coefs (scale row.den (unit_vector p.v
     row : TableRow
     row = row_of t c
 
-    none : TableRow
-    none = record { den = pos 1; constant = pos 0; coefs = [] }
-
     c_below : c < length t.rows
     c_below = All-get_or (λ c. c < length t.rows) t.columns j 0 l h.columns_below
 
     fits : IsTableRow p.vars row
-    fits = All-get_or (IsTableRow p.vars) t.rows c none c_below h.rows_fit
+    fits = row_of-fits p t c h c_below
 
     long : length row.coefs ≡ length (scale row.den (unit_vector p.vars j))
     long = fits.one_each ∙ sym (length-scale row.den (unit_vector p.vars j) ∙ length-unit_vector p.vars j)
@@ -45,6 +42,6 @@ column_coefs p t h j l = same_from_dot row.coefs (scale row.den (unit_vector p.v
         let r = reach p t h us (pos 0) (same ∙ fits.one_each) in
         let qs : List ℤ = quantities p r.0 (r.1 *ℤ pos 0) in
         let number : get_or qs c (pos 0) ≡ r.1 *ℤ get_or us j (pos 0) = sym (get_or-in_columns t.columns qs j l) ∙ ap (λ (vs : List ℤ). get_or vs j (pos 0)) r.4 ∙ get_or-scale r.1 us j in
-        let holds = AllHold-at qs (in_columns t.columns qs) (r.1 *ℤ pos 0) t.rows c none (h.rows_hold r.0 (r.1 *ℤ pos 0) r.3) c_below in
+        let holds = row_of-holds p t c h c_below r.0 (r.1 *ℤ pos 0) r.3 in
         let j_below : j < p.vars = subst (λ n. j < n) h.one_column_each l in
         unit_product row.coefs us p.vars j row.den row.constant r.1 j_below r.2 (column_constant p t h j l) (subst₂ (λ q vs. Holds q vs (r.1 *ℤ pos 0) row) number r.4 holds)

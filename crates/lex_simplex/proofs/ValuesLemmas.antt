@@ -1,23 +1,21 @@
 -- A pivot on a row with a negative constant takes the values of the cost and the variables up.
-use Rattle.std.proofs.lemmas.List.{length-set, length-map, take-map}
-use Rattle.std.proofs.lemmas.List.Elements.{All-cons, All-head, All-tail, All-map, All-take, All-weaker, All-get_or}
-use Rattle.std.proofs.Common.{◌≡◌, ℕ, ◌<◌, ◌≤◌, length, take, map, List, [], ◌∷◌, All, ℤ, pos, ◌+ℤ◌, ◌*ℤ◌, neg_ℤ, ◌<ℤ◌, refl, sym, ap, subst, ◌∙◌, arith}
-use Rattle.frac128.specs.Problem.{ProblemData}
-use Rattle.integers.specs.Fraction.{Fraction, IsFraction, SameFraction, AreFractions, SameFractions}
+use Rattle.std.proofs.lemmas.List.{length-map}
+use Rattle.std.proofs.lemmas.List.Elements.{All-head, All-tail, All-map, All-weaker}
+use Rattle.std.proofs.Common.{ℕ, ◌<◌, ◌≤◌, length, map, List, [], ◌∷◌, All, ℤ, pos, ◌+ℤ◌, ◌*ℤ◌, neg_ℤ, ◌<ℤ◌, refl, sym, subst, arith}
+use Rattle.integers.specs.Fraction.{Fraction, SameFraction, AreFractions, SameFractions}
 use Rattle.integers.specs.Lexicographic.{IsLexPositive, LexLess}
 use Rattle.integers.proofs.Laws.{lin}
 use Rattle.integers.proofs.LexOrder.{plus_multiple, AreFractions-plus_multiple, LexLess-plus_multiple, LexLess-same_right}
 use Rattle.integers.proofs.Ring.{neg, ◌⊖◌, ◌⊕◌, ◌⊗◌, ◌≗◌, ◌✶◌, ◌⇐◌, combine8}
+use Rattle.frac128.specs.Problem.{ProblemData}
 use Rattle.lex_simplex.specs.Equations.{IsTableRow, IsTableauOf}
 use Rattle.lex_simplex.specs.Tableau.{TableRow, Tableau, row_of, entry, ordering_rows, value_of, values}
 use Rattle.lex_simplex.specs.Turn.{next_row, pivoted}
 use Rattle.lex_simplex.proofs.RowLemmas.{next_row-scaled, next_row-fits}
+use Rattle.lex_simplex.proofs.PivotColumns.{ordering_rows-pivoted}
+use Rattle.lex_simplex.proofs.TableauRows.{AreFractions-rows, ordering_rows-fit, row_of-fits}
 
 -- ---- rows
-
--- the values of rows with positive denominators are fractions
-AreFractions-rows : (vars : ℕ) (rows : List TableRow) → All (IsTableRow vars) rows → AreFractions (map value_of rows)
-AreFractions-rows vars rows h = All-map IsFraction value_of rows (All-weaker (IsTableRow vars) (λ (row : TableRow). pos 0 <ℤ row.den) (λ row fits. fits.den_pos) rows h)
 
 -- a row's value after a pivot is its value plus a multiple of its number in the pivot column
 next_row-value : (pivot : TableRow) (e : ℕ) (row : TableRow) → pos 0 <ℤ entry pivot e → pos 0 <ℤ row.den → SameFraction (record { num = entry pivot e *ℤ row.constant +ℤ neg_ℤ pivot.constant *ℤ entry row e; den = entry pivot e *ℤ row.den }) (value_of (next_row pivot e row))
@@ -45,21 +43,13 @@ next_rows-rise pivot e vars rows pa pc hp h up =
 
 -- ---- tableaus
 
--- the ordering rows of a tableau have positive denominators and as many numbers as there are variables
-pub ordering_rows-fit : (p : ProblemData) (t : Tableau) → IsTableauOf p t → All (IsTableRow p.vars) (ordering_rows t)
-ordering_rows-fit p t ok = All-cons (IsTableRow p.vars) t.cost (take (length t.columns) t.rows) ok.cost_fits (All-take (IsTableRow p.vars) (length t.columns) t.rows ok.rows_fit)
-
 -- the values of a tableau are fractions
 pub AreFractions-values : (p : ProblemData) (t : Tableau) → IsTableauOf p t → AreFractions (values t)
 AreFractions-values p t ok = AreFractions-rows p.vars (ordering_rows t) (ordering_rows-fit p t ok)
 
--- the ordering rows after a pivot
-pub ordering_rows-pivoted : (t : Tableau) (r e : ℕ) → ordering_rows (pivoted t r e) ≡ map (next_row (row_of t r) e) (ordering_rows t)
-ordering_rows-pivoted t r e = ap (λ rows. next_row (row_of t r) e t.cost ∷ rows) (ap (λ n. take n (map (next_row (row_of t r) e) t.rows)) (length-set t.columns e r) ∙ take-map (next_row (row_of t r) e) (length t.columns) t.rows)
-
 -- a pivot on a row with a negative constant and a positive number in the column takes the values up
 pub values_rise : (p : ProblemData) (t : Tableau) (r e : ℕ) → IsTableauOf p t → r < length t.rows → e < length t.columns → (row_of t r).constant <ℤ pos 0 → pos 0 <ℤ entry (row_of t r) e → LexLess (values t) (values (pivoted t r e))
 values_rise p t r e ok below inside negative positive =
-    let fits = All-get_or (IsTableRow p.vars) t.rows r (record { den = pos 1; constant = pos 0; coefs = [] }) below ok.rows_fit in
+    let fits = row_of-fits p t r ok below in
     let here : e < p.vars = let n = ok.one_column_each in omega arith in
     subst (λ rows. LexLess (values t) (map value_of rows)) (sym (ordering_rows-pivoted t r e)) (next_rows-rise (row_of t r) e p.vars (ordering_rows t) positive negative fits (ordering_rows-fit p t ok) (ok.columns_positive e here))

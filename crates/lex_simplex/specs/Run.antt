@@ -1,9 +1,8 @@
 -- What code makes of tables and problems, by their runs.
-use Rattle.std.specs.Prelude.{◌≡◌, ℕ, Some, Result, Ok, Err, IfOk}
+use Rattle.std.specs.Prelude.{◌≡◌, ℕ, Result, Ok, Err, IfOk}
 use Rattle.frac128.specs.Problem.{ProblemData}
 use Rattle.lex_simplex.specs.Answer.{IsOutcome, end_of}
 use Rattle.lex_simplex.specs.Count.{raised}
-use Rattle.lex_simplex.specs.State.{TableData}
 use Rattle.lex_simplex.specs.Tableau.{Tableau}
 use Rattle.lex_simplex.specs.Turn.{IsRun, IsRunFrom, Turns}
 use Rattle.lex_simplex.specs.declared.end.End.{End}

@@ -1,11 +1,12 @@
 use Rattle.std.proofs.Common.{◌<◌, ◌+◌, length, Less, Equal, Greater, sym, ◌∙◌, arith}
-use Rattle.lex_simplex.proofs.RatioSteps.{column_within, comes_before-step, comes_before-last}
+use Rattle.lex_simplex.proofs.RatioSteps.{comes_before-step, comes_before-last, more_rows}
+use Rattle.lex_simplex.proofs.CellReading.{column_within}
 use Rattle.lex_simplex.proofs.choice.comes_before.Goals as goal
 
 pub compare_ratios-requires-clause-cells : goal.compare_ratios-requires-clause-cells
 compare_ratios-requires-clause-cells c = (
-  column_within c.args.columns.now c.args.grid.now c.loop-place.place c.args.left c.row.result.now c.requires.cells c.requires.tableau c.loop-place-test.true c.row.ensures c.requires.left.below,
-  column_within c.args.columns.now c.args.grid.now c.loop-place.place c.args.right c.row.result.now c.requires.cells c.requires.tableau c.loop-place-test.true c.row.ensures c.requires.right.below,
+  column_within c.args.columns.now c.args.grid.now c.loop-place.place c.args.left c.row.result.now c.requires.cells (omega (arith, c.loop-place-test.true, more_rows c.args.columns.now c.args.grid.now c.requires.cells c.requires.tableau)) c.row.ensures c.requires.left.below,
+  column_within c.args.columns.now c.args.grid.now c.loop-place.place c.args.right c.row.result.now c.requires.cells (omega (arith, c.loop-place-test.true, more_rows c.args.columns.now c.args.grid.now c.requires.cells c.requires.tableau)) c.row.ensures c.requires.right.below,
 )
 
 pub returns-in-Less : goal.returns-in-Less

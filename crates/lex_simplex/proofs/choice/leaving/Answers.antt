@@ -1,8 +1,8 @@
 use Rattle.std.proofs.Common.{sym, ◌∙◌, pos, length}
+use Rattle.integers.proofs.OrderTests.{is_lt-false, is_lt-true}
 use Rattle.lex_simplex.specs.Cells.{tableau_in}
 use Rattle.lex_simplex.specs.Tableau.{row_of}
 use Rattle.lex_simplex.proofs.LeavingSteps.{constant_read, quantity_within, leaving_found, leaving_more, leaving_missed}
-use Rattle.lex_simplex.proofs.OrderTests.{is_lt-true, is_lt-false}
 use Rattle.lex_simplex.proofs.choice.leaving.Goals as goal
 
 pub returns-then-lt : goal.returns-then-lt

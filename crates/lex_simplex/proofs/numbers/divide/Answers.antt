@@ -1,7 +1,7 @@
 use Rattle.std.proofs.Common.{◌≡◌, pos, rules, int_div, sym, ap, ◌∙◌}
 use Rattle.integers.specs.Divisibility.{quotients}
-use Rattle.lex_simplex.proofs.DivisorLists.{quotients-one}
-use Rattle.lex_simplex.proofs.RowLists.{map_front-next}
+use Rattle.integers.proofs.Divisibility.{quotients-one}
+use Rattle.integers.proofs.Loops.{map_front-next}
 use Rattle.lex_simplex.proofs.numbers.divide.Goals as goal
 
 pub returns-then-eq : goal.returns-then-eq

@@ -1,5 +1,5 @@
 use Rattle.std.proofs.Common.{◌≡◌, pos, rules, unsigned_abs, ap}
-use Rattle.lex_simplex.proofs.DivisorLists.{HasSoFar-next, HasSoFar-all, HasSoFar-one}
+use Rattle.integers.proofs.DivisorLists.{HasSoFar-all, HasSoFar-next, HasSoFar-one}
 use Rattle.lex_simplex.proofs.numbers.divisor_of.Goals as goal
 
 pub returns-then-eq-clause-divisor : goal.returns-then-eq-clause-divisor

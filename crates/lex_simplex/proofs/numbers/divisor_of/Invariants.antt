@@ -1,5 +1,5 @@
 use Rattle.std.proofs.Common.{pos, unsigned_abs, ◌≤ℤ◌}
-use Rattle.lex_simplex.proofs.DivisorLists.{HasSoFar}
+use Rattle.integers.proofs.DivisorLists.{HasSoFar}
 use Rattle.lex_simplex.proofs.numbers.divisor_of.Given as goal
 
 abbrev pub invariant-loop-number : goal.invariant-loop-number

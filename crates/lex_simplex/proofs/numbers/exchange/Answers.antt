@@ -1,7 +1,8 @@
 use Rattle.std.proofs.Common.{◌≡◌, ◌∙◌, ap, subst₂, get_or, pos, int_div, OnOk, OnErr, IfOk}
+use Rattle.integers.proofs.Divisibility.{positive_divisor}
 use Rattle.lex_simplex.specs.Cells.{ExchangeFitsBy, exchanged_by}
 use Rattle.lex_simplex.specs.Turn.{shared}
-use Rattle.lex_simplex.proofs.ExchangeLemmas.{positive_divisor, can_by, factor-is, own_is}
+use Rattle.lex_simplex.proofs.ExchangeLemmas.{can_by, factor-is, own_is}
 use Rattle.lex_simplex.proofs.numbers.exchange.Goals as goal
 
 pub quotient-requires : goal.quotient-requires

@@ -1,6 +1,7 @@
 use Rattle.std.proofs.Common.{◌∙◌, ap, pos, unsigned_abs, subst}
 use Rattle.integers.specs.Divisibility.{quotients, divisor_of_all, IsGcdOfAll}
-use Rattle.lex_simplex.proofs.ExchangeLemmas.{divisor-is, divisor_after}
+use Rattle.integers.proofs.Divisibility.{divisor-is}
+use Rattle.lex_simplex.proofs.ExchangeLemmas.{divisor_after}
 use Rattle.lex_simplex.proofs.numbers.exchange_by.Goals as goal
 
 pub divide-requires : goal.divide-requires

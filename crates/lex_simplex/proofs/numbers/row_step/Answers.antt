@@ -1,5 +1,6 @@
 use Rattle.std.proofs.Common.{◌<◌, length, arith, rules}
-use Rattle.lex_simplex.proofs.RowLists.{step_front-next, StepFits-next}
+use Rattle.integers.proofs.Loops.{step_front-next}
+use Rattle.lex_simplex.proofs.FitLoops.{StepFits-next}
 use Rattle.lex_simplex.proofs.numbers.row_step.Goals as goal
 
 pub returns-in_err-row-clause-too_wide : goal.returns-in_err-row-clause-too_wide

@@ -1,6 +1,7 @@
 use Rattle.std.proofs.Common.{◌<◌, length, [], arith, sym, subst, ◌∙◌}
+use Rattle.integers.proofs.Loops.{map_front-done, map_front-length, map_front-was}
 use Rattle.lex_simplex.specs.Cells.{exchanged, CanExchange}
-use Rattle.lex_simplex.proofs.ExchangeLoop.{map_front-length, map_front-row, map_front-done, ExchangesFit-next}
+use Rattle.lex_simplex.proofs.FitLoops.{ExchangesFit-next}
 use Rattle.lex_simplex.proofs.pivot.pivot_rows.Goals as goal
 
 pub exchange-requires-clause-place : goal.exchange-requires-clause-place
@@ -11,7 +12,7 @@ exchange-requires-clause-place c =
 pub exchange-requires-clause-can : goal.exchange-requires-clause-can
 exchange-requires-clause-can c =
     let below : c.loop-row.row < length c.args.grid.now = omega (arith, c.loop-row-test.true, c.count-row-end.ensures) in
-    subst (CanExchange c.args.number c.args.place c.args.pivot.now) (sym (map_front-row (exchanged c.args.number c.args.place c.args.pivot.now) c.args.grid.now c.loop-row.grid c.loop-row.row [] c.loop-row.invariant.so_far)) (c.requires c.loop-row.row [] below)
+    subst (CanExchange c.args.number c.args.place c.args.pivot.now) (sym (map_front-was (exchanged c.args.number c.args.place c.args.pivot.now) c.args.grid.now c.loop-row.grid c.loop-row.row [] c.loop-row.invariant.so_far)) (c.requires c.loop-row.row [] below)
 
 pub loop-row-preserved : goal.loop-row-preserved
 loop-row-preserved c =

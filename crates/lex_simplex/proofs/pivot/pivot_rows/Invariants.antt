@@ -1,4 +1,4 @@
-use Rattle.std.proofs.Common.{◌≡◌, ◌↔◌, ◌++◌, map, take, drop, length}
+use Rattle.std.proofs.Common.{◌≡◌, ◌↔◌, ◌++◌, map, take, drop}
 use Rattle.lex_simplex.specs.Cells.{ExchangesFit, exchanged}
 use Rattle.lex_simplex.proofs.pivot.pivot_rows.Given as goal
 

@@ -1,6 +1,6 @@
 use Rattle.std.proofs.Common.{◌-◌, ◌∙◌, ap, replicate, pos}
 use Rattle.std.proofs.lemmas.List.{with_items_is}
-use Rattle.lex_simplex.proofs.OppositeWeights.{weights_at_row}
+use Rattle.lex_simplex.proofs.WeightReading.{weights_at_row}
 use Rattle.lex_simplex.proofs.reading.empty_weights.Goals as goal
 
 pub returns : goal.returns

@@ -1,5 +1,5 @@
 use Rattle.std.proofs.Common.{neg_ℤ}
-use Rattle.lex_simplex.proofs.RowLists.{map_front-next}
+use Rattle.integers.proofs.Loops.{map_front-next}
 use Rattle.lex_simplex.proofs.reading.negate.Goals as goal
 
 pub loop-i-preserved : goal.loop-i-preserved

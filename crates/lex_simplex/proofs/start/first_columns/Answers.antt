@@ -1,6 +1,7 @@
 use Rattle.std.proofs.Common.{◌-◌, ◌+◌}
 use Rattle.integers.specs.Counting.{numbers_from}
-use Rattle.lex_simplex.proofs.StartLists.{numbers_from-next, push_next}
+use Rattle.integers.proofs.Loops.{push_next}
+use Rattle.integers.proofs.Numbers.{numbers_from-next}
 use Rattle.lex_simplex.proofs.start.first_columns.Goals as goal
 
 pub loop-variable-preserved : goal.loop-variable-preserved

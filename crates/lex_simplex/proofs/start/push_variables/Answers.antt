@@ -1,8 +1,9 @@
 use Rattle.std.proofs.Common.{ℕ, ◌-◌, ◌+◌, ◌++◌, map}
 use Rattle.integers.specs.Counting.{numbers_from}
+use Rattle.integers.proofs.Loops.{join_next}
 use Rattle.lex_simplex.specs.Cells.{cells_of, joined}
 use Rattle.lex_simplex.specs.Tableau.{variable_row}
-use Rattle.lex_simplex.proofs.StartLists.{variable_rows-next, join_next}
+use Rattle.lex_simplex.proofs.StartTable.{variable_rows-next}
 use Rattle.lex_simplex.proofs.start.push_variables.Goals as goal
 
 pub loop-variable-preserved : goal.loop-variable-preserved

@@ -1,5 +1,5 @@
 use Rattle.std.proofs.Common.{◌-◌, ◌+◌, ◌++◌, pos, replicate}
-use Rattle.lex_simplex.proofs.StartLists.{replicate-next, push_next}
+use Rattle.integers.proofs.Loops.{push_next, replicate-next}
 use Rattle.lex_simplex.proofs.start.push_zeros.Goals as goal
 
 pub loop-place-preserved : goal.loop-place-preserved

@@ -1,6 +1,7 @@
 use Rattle.std.proofs.Common.{rules, ◌≡◌, pos, ◌+ℤ◌, ◌*ℤ◌, ◌<ℤ◌, int_div}
 use Rattle.integers.proofs.Order.{mul_pos}
-use Rattle.frac128.proofs.Fits.{quotient_positive, quotient_whole, sum_value}
+use Rattle.integers.proofs.Divisibility.{quotient_whole, quotient_positive}
+use Rattle.frac128.proofs.Fits.{sum_value}
 use Rattle.frac128.proofs.frac.Frac.add_by.Goals as goal
 
 pub reduced-requires : goal.reduced-requires

@@ -1,17 +1,17 @@
 use Rattle.std.proofs.lemmas.Result.{on_err_weaker, on_ok_weaker}
 use Rattle.std.proofs.Common.{◌↔◌, pos, unsigned_abs, ◌<ℤ◌}
 use Rattle.integers.specs.Divisibility.{IsGcdOf}
+use Rattle.integers.proofs.Divisibility.{positive_divisor}
 use Rattle.frac128.specs.Frac.{ProductFits, ProductFitsBy}
 use Rattle.frac128.proofs.Fits.{any_divisors}
-use Rattle.frac128.proofs.Numbers.{divisor_positive}
 use Rattle.frac128.proofs.frac.Frac.mul.Goals as goal
 
 -- a greatest common divisor with a denominator is positive
 first_positive : (c : goal.After-common_divisor-second) → pos 0 <ℤ c.common_divisor-first.result
-first_positive c = divisor_positive c.self.inside.num c.other.inside.den c.common_divisor-first.result c.other.invariant.0 c.common_divisor-first.ensures.divisor c.common_divisor-first.ensures.sign
+first_positive c = positive_divisor c.other.inside.den c.common_divisor-first.result c.other.invariant.0 c.common_divisor-first.ensures.divisor.1 c.common_divisor-first.ensures.sign
 
 second_positive : (c : goal.After-common_divisor-second) → pos 0 <ℤ c.common_divisor-second.result
-second_positive c = divisor_positive c.other.inside.num c.self.inside.den c.common_divisor-second.result c.self.invariant.0 c.common_divisor-second.ensures.divisor c.common_divisor-second.ensures.sign
+second_positive c = positive_divisor c.self.inside.den c.common_divisor-second.result c.self.invariant.0 c.common_divisor-second.ensures.divisor.1 c.common_divisor-second.ensures.sign
 
 pub mul_by-requires-clause-first : goal.mul_by-requires-clause-first
 mul_by-requires-clause-first c = rw (← c.self.view_is, ← c.other.view_is) c.common_divisor-first.ensures.divisor
@@ -29,8 +29,8 @@ fits c =
     let g = c.args.other.now in
     let first : IsGcdOf f.num g.den (unsigned_abs c.common_divisor-first.result) = rw (← c.self.view_is, ← c.other.view_is) c.common_divisor-first.ensures.divisor in
     let second : IsGcdOf g.num f.den (unsigned_abs c.common_divisor-second.result) = rw (← c.self.view_is, ← c.other.view_is) c.common_divisor-second.ensures.divisor in
-    let first_sign = divisor_positive c.self.inside.num c.other.inside.den c.common_divisor-first.result c.other.invariant.0 c.common_divisor-first.ensures.divisor c.common_divisor-first.ensures.sign in
-    let second_sign = divisor_positive c.other.inside.num c.self.inside.den c.common_divisor-second.result c.self.invariant.0 c.common_divisor-second.ensures.divisor c.common_divisor-second.ensures.sign in
+    let first_sign = positive_divisor c.other.inside.den c.common_divisor-first.result c.other.invariant.0 c.common_divisor-first.ensures.divisor.1 c.common_divisor-first.ensures.sign in
+    let second_sign = positive_divisor c.self.inside.den c.common_divisor-second.result c.self.invariant.0 c.common_divisor-second.ensures.divisor.1 c.common_divisor-second.ensures.sign in
     any_divisors (λ k l. ProductFitsBy k l f g) f.num f.den g.num g.den c.common_divisor-first.result c.common_divisor-second.result first_sign second_sign first second
 
 pub returns-clause-ok : goal.returns-clause-ok

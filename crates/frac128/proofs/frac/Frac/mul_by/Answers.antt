@@ -1,6 +1,7 @@
 use Rattle.std.proofs.Common.{rules, ◌≡◌, ◌*ℤ◌, int_div}
+use Rattle.integers.proofs.Divisibility.{quotient_whole}
 use Rattle.frac128.specs.Frac.{IsReduced}
-use Rattle.frac128.proofs.Fits.{quotient_whole, product_value, product_reduced}
+use Rattle.frac128.proofs.Fits.{product_value, product_reduced}
 use Rattle.frac128.proofs.frac.Frac.mul_by.Goals as goal
 
 -- the divided parts are coprime crosswise

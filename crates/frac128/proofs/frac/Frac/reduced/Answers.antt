@@ -1,12 +1,13 @@
 use Rattle.std.proofs.Common.{sym}
-use Rattle.frac128.proofs.Numbers.{divisor_positive, lowest_parts}
+use Rattle.integers.proofs.Divisibility.{positive_divisor}
+use Rattle.frac128.proofs.Numbers.{lowest_parts}
 use Rattle.frac128.proofs.frac.Frac.reduced.Goals as goal
 
 pub quotient-requires : goal.quotient-requires
-quotient-requires c = divisor_positive c.args.num c.args.den c.common_divisor-divisor.result c.requires c.common_divisor-divisor.ensures.divisor c.common_divisor-divisor.ensures.sign
+quotient-requires c = positive_divisor c.args.den c.common_divisor-divisor.result c.requires c.common_divisor-divisor.ensures.divisor.1 c.common_divisor-divisor.ensures.sign
 
 pub quotient-requires-2 : goal.quotient-requires-2
-quotient-requires-2 c = divisor_positive c.args.num c.args.den c.common_divisor-divisor.result c.requires c.common_divisor-divisor.ensures.divisor c.common_divisor-divisor.ensures.sign
+quotient-requires-2 c = positive_divisor c.args.den c.common_divisor-divisor.result c.requires c.common_divisor-divisor.ensures.divisor.1 c.common_divisor-divisor.ensures.sign
 
 pub invariant_of-result : goal.invariant_of-result
 invariant_of-result c =

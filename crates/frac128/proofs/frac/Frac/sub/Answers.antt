@@ -1,21 +1,21 @@
 use Rattle.std.proofs.lemmas.Result.{on_err_weaker, on_ok_weaker}
 use Rattle.std.proofs.Common.{◌↔◌, unsigned_abs}
 use Rattle.integers.specs.Divisibility.{IsGcdOf}
+use Rattle.integers.proofs.Divisibility.{positive_divisor}
 use Rattle.frac128.specs.Frac.{DifferenceFits, DifferenceFitsBy}
 use Rattle.frac128.proofs.Fits.{any_divisor}
-use Rattle.frac128.proofs.Numbers.{divisor_positive}
 use Rattle.frac128.proofs.frac.Frac.sub.Goals as goal
 
 pub sub_by-requires-clause-divisor : goal.sub_by-requires-clause-divisor
 sub_by-requires-clause-divisor c = rw (← c.self.view_is, ← c.other.view_is) c.common_divisor.ensures.divisor
 
 pub sub_by-requires-clause-positive : goal.sub_by-requires-clause-positive
-sub_by-requires-clause-positive c = divisor_positive c.self.inside.den c.other.inside.den c.common_divisor.result c.other.invariant.0 c.common_divisor.ensures.divisor c.common_divisor.ensures.sign
+sub_by-requires-clause-positive c = positive_divisor c.other.inside.den c.common_divisor.result c.other.invariant.0 c.common_divisor.ensures.divisor.1 c.common_divisor.ensures.sign
 
 -- the divisor at hand stands for each
 fits : (c : goal.After-sub_by) → DifferenceFits c.args.self.now c.args.other.now ↔ DifferenceFitsBy c.common_divisor.result c.args.self.now c.args.other.now
 fits c =
-    let positive = divisor_positive c.self.inside.den c.other.inside.den c.common_divisor.result c.other.invariant.0 c.common_divisor.ensures.divisor c.common_divisor.ensures.sign in
+    let positive = positive_divisor c.other.inside.den c.common_divisor.result c.other.invariant.0 c.common_divisor.ensures.divisor.1 c.common_divisor.ensures.sign in
     let divisor : IsGcdOf c.args.self.now.den c.args.other.now.den (unsigned_abs c.common_divisor.result) = rw (← c.self.view_is, ← c.other.view_is) c.common_divisor.ensures.divisor in
     any_divisor (λ k. DifferenceFitsBy k c.args.self.now c.args.other.now) c.args.self.now.den c.args.other.now.den c.common_divisor.result positive divisor
 

@@ -1,9 +1,7 @@
 use Rattle.std.proofs.Common.{◌≡◌, ◌∙◌, ◌++◌, sym, ap, subst, pos, replicate, None}
 use Rattle.integers.specs.Counting.{numbers_from}
 use Rattle.lex_simplex.specs.Equations.{IsTableauOf}
-use Rattle.lex_simplex.specs.State.{TableData}
-use Rattle.lex_simplex.specs.Tableau.{Tableau, start}
-use Rattle.lex_simplex.specs.Cells.{tableau_in}
+use Rattle.lex_simplex.specs.Tableau.{Tableau}
 use Rattle.lex_simplex.proofs.StartLemmas.{start_is}
 use Rattle.lex_simplex.proofs.StartTable.{first_running, first_tableau}
 use Rattle.lex_simplex.proofs.table.Table.make.Goals as goal

@@ -1,6 +1,5 @@
 use Rattle.std.proofs.Common.{◌≡◌, ◌∙◌, sym, ap, subst, IfOk}
 use Rattle.std.proofs.lemmas.List.{with_items_is}
-use Rattle.std.specs.Vec.{with_items}
 use Rattle.lex_simplex.specs.Cells.{tableau_in}
 use Rattle.lex_simplex.specs.Equations.{IsTableauOf}
 use Rattle.lex_simplex.specs.State.{TableData}

@@ -2,9 +2,19 @@
 use Rattle.std.specs.Cmp.{int_ranks}
 use Rattle.std.specs.Ordering.{MatchOrdering, int_cmp, is_lt, is_le}
 use Rattle.std.proofs.lemmas.Int.{ints}
-use Rattle.std.proofs.Common.{◌≡◌, true, false, ℤ, ◌≤ℤ◌, ◌<ℤ◌, Ordering, Less, Equal, Greater, arith}
+use Rattle.std.proofs.Common.{◌≡◌, ◌↔◌, true, false, int_lt, Decides, ℤ, ◌≤ℤ◌, ◌<ℤ◌, Ordering, Less, Equal, Greater, arith}
 
--- ---- general
+-- ---- as Bool
+
+-- the test of order of two numbers
+pub int_lt-Decides : (a b : ℤ) → Decides (int_lt a b) (a <ℤ b)
+int_lt-Decides a b = (λ e. omega (arith, ints), λ h. grind (arith, ints))
+
+-- the test fails exactly where the order is the other one
+pub int_lt-false : (a b : ℤ) → (int_lt a b ≡ false) ↔ (b ≤ℤ a)
+int_lt-false a b = (λ e. omega (arith, ints), λ h. grind (arith, ints))
+
+-- ---- as an order
 
 -- where `<` is true
 pub is_lt-true : (x y : ℤ) → is_lt (int_cmp x y) ≡ true → x <ℤ y

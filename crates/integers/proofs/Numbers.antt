@@ -1,35 +1,10 @@
--- The first place that passes a test, the first number below n that does, and tests of all numbers below n.
-use Rattle.std.specs.List.{list_all, position_or_len}
-use Rattle.std.proofs.lemmas.Bool.{cases_lt, cases_eq, cond-true, cond-false, lt-ltb, le-ltb}
+-- Numbers in a row: `numbers_from`, tests of them, and the first that passes one.
+use Rattle.std.specs.List.{list_all}
+use Rattle.std.specs.List.Sorted.{IsStrictlyIncreasing}
+use Rattle.std.proofs.lemmas.Bool.{cases_eq, cond-true, cond-false}
 use Rattle.std.proofs.lemmas.Bool.Decides.{Decides-by_and}
-use Rattle.std.proofs.lemmas.List.Sums.{position_or_len_is, fails_before_first}
-use Rattle.std.proofs.Common.{◌≡◌, ◌≢◌, ◌⊎◌, inl, inr, ◌↔◌, ℕ, zero, suc, ◌+◌, ◌<◌, ◌≤◌, length, get_or, Bool, true, false, cond, ltb, Decides, List, [], ◌∷◌, All, position, find, Some, None, refl, sym, ap, subst, ◌∙◌, arith}
+use Rattle.std.proofs.Common.{◌≡◌, ◌≢◌, ◌⊎◌, inl, inr, ◌↔◌, ℕ, zero, suc, ◌+◌, ◌-◌, ◌<◌, ◌≤◌, length, get_or, Bool, true, false, cond, Decides, ◌∷◌, All, Contains, find, Some, None, refl, sym, ap, subst, ◌∙◌, arith}
 use Rattle.integers.specs.Counting.{numbers_from}
-
--- ---- general
-
--- a place that passes, after places that fail, is the first that passes
-pub position-is : {X : Type 0} (p : X → Bool) (xs : List X) (i : ℕ) (d : X) → i < length xs → p (get_or xs i d) ≡ true → ((k : ℕ) → k < i → p (get_or xs k d) ≡ false) → position p xs ≡ Some i
-position-is p xs i d below passes fails =
-    let e : position_or_len p xs ≡ i = position_or_len_is p xs i d (omega arith) fails (λ _. passes) in
-    cond-true (ltb (position_or_len p xs) (length xs)) (Some (position_or_len p xs)) None (lt-ltb (position_or_len p xs) (length xs) (omega arith)) ∙ ap Some e
-
--- there is none exactly where each place fails
-pub position-none : {X : Type 0} (p : X → Bool) (xs : List X) → (position p xs ≡ None) ↔ All (λ x. p x ≡ false) xs
-position-none {X} p xs = (to (cases_lt (position_or_len p xs) (length xs)), from)
-  where
-    to : (position_or_len p xs < length xs) ⊎ (length xs ≤ position_or_len p xs) → position p xs ≡ None → All (λ x. p x ≡ false) xs
-    to (inl l) e = let s = sym (cond-true (ltb (position_or_len p xs) (length xs)) (Some (position_or_len p xs)) None (lt-ltb (position_or_len p xs) (length xs) l)) ∙ e in absurd (cc s)
-    to (inr l) e = λ k d below. fails_before_first p xs k d (omega arith)
-
-    from : All (λ x. p x ≡ false) xs → position p xs ≡ None
-    from h = at xs h
-      where
-        at : (ys : List X) → All (λ x. p x ≡ false) ys → position p ys ≡ None
-        at [] h = refl
-        at (y ∷ ys) h =
-            let e : position_or_len p (y ∷ ys) ≡ length (y ∷ ys) = position_or_len_is p (y ∷ ys) (length (y ∷ ys)) y (omega arith) (λ k l. h k y l) (λ l. absurd (omega arith)) in
-            cond-false (ltb (position_or_len p (y ∷ ys)) (length (y ∷ ys))) (Some (position_or_len p (y ∷ ys))) None (le-ltb (position_or_len p (y ∷ ys)) (length (y ∷ ys)) (omega arith))
 
 -- the numbers from a on are as many as asked for
 pub length-numbers_from : (a n : ℕ) → length (numbers_from a n) ≡ n
@@ -41,6 +16,34 @@ pub get_or-numbers_from : (a n k d : ℕ) → k < n → get_or (numbers_from a n
 get_or-numbers_from a zero k d h = absurd (omega arith)
 get_or-numbers_from a (suc n) zero d h = omega arith
 get_or-numbers_from a (suc n) (suc k) d h = get_or-numbers_from (suc a) n k d (omega arith) ∙ omega arith
+
+-- they rise
+pub IsStrictlyIncreasing-numbers_from : (a n : ℕ) → IsStrictlyIncreasing (numbers_from a n)
+IsStrictlyIncreasing-numbers_from a n k l =
+    let below : k + 1 < n = omega (arith, length-numbers_from a n) in
+    omega (arith, get_or-numbers_from a n k 0 (omega arith), get_or-numbers_from a n (k + 1) 0 below)
+
+-- each is below the end
+pub numbers_from-below : (a n : ℕ) → All (λ x. x < a + n) (numbers_from a n)
+numbers_from-below a n k d l =
+    let below : k < n = omega (arith, length-numbers_from a n) in
+    omega (arith, get_or-numbers_from a n k d below)
+
+-- each number between the first and the end is there
+pub Contains-numbers_from : (a n x : ℕ) → a ≤ x → x < a + n → Contains (numbers_from a n) x
+Contains-numbers_from a n x l h =
+    let k : ℕ = x - a in
+    let below : k < n = omega arith in
+    (k, omega (arith, length-numbers_from a n), get_or-numbers_from a n k x below ∙ omega arith)
+
+-- the numbers that are left begin with the next one
+pub numbers_from-next : (i n : ℕ) → i < n → numbers_from i (n - i) ≡ i ∷ numbers_from (i + 1) (n - (i + 1))
+numbers_from-next i n h =
+    let size : n - i ≡ suc (n - (i + 1)) = omega arith in
+    let more : suc i ≡ i + 1 = omega arith in
+    ap (numbers_from i) size ∙ ap (λ k. i ∷ numbers_from k (n - (i + 1))) more
+
+-- ---- tests of all of them
 
 -- what holds of the numbers below n, as a list and one by one
 pub All-numbers : (P : ℕ → Type 0) (n : ℕ) → All P (numbers_from 0 n) ↔ ((k : ℕ) → k < n → P k)
@@ -55,6 +58,8 @@ Decides-numbers p P each n =
     let all = Decides-by_and p P (list_all p) each refl (λ _ _. refl) (numbers_from 0 n) in
     let one = All-numbers P n in
     (λ e. one.0 (all.0 e), λ h. all.1 (one.1 h))
+
+-- ---- the first that passes
 
 -- the number found is in the range and passes
 pub find-numbers_some : (p : ℕ → Bool) (a n e : ℕ) → find p (numbers_from a n) ≡ Some e → (a ≤ e) × (e < a + n) × (p e ≡ true)

@@ -1,14 +1,11 @@
--- The greatest common divisor of a list, number by number.
+-- The greatest common divisor of a list, found number by number.
 use Prim.Native.Nat.{◌∣◌}
 use Rattle.std.specs.Int.{IsGcd}
-use Rattle.std.proofs.Math.Nat.{one-dvd}
 use Rattle.std.proofs.lemmas.Nat.Gcd.{dvd_trans}
-use Rattle.std.proofs.Common.{◌≡◌, ◌↔◌, ℕ, ◌+◌, ◌<◌, ◌≤◌, length, get_or, drop, List, [], ◌∷◌, ℤ, pos, unsigned_abs, int_div, refl, sym, ap₂, subst, ◌∙◌}
-use Rattle.std.proofs.lemmas.List.{drop_all}
-use Rattle.integers.proofs.Laws.{one-*ℤ}
-use Rattle.integers.specs.Divisibility.{DividesAll, IsGcdOfAll, quotients}
-use Rattle.integers.proofs.Divisibility.{DividesAll-nil, DividesAll-drop_more, IsGcdOfAll-divisors, int_div-mul_cancel}
-use Rattle.lex_simplex.proofs.RowLists.{get_or-default}
+use Rattle.std.proofs.Common.{◌≡◌, ◌↔◌, ℕ, ◌+◌, ◌<◌, ◌≤◌, length, get_or, drop, List, ℤ, pos, unsigned_abs, sym, subst, ◌∙◌}
+use Rattle.std.proofs.lemmas.List.{drop_all, get_or_default}
+use Rattle.integers.specs.Divisibility.{DividesAll, IsGcdOfAll}
+use Rattle.integers.proofs.Divisibility.{DividesAll-nil, DividesAll-one, DividesAll-drop_more, IsGcdOfAll-divisors}
 
 -- the common divisors of the list, once its numbers before the place i have the divisor g
 pub record HasSoFar (xs : List ℤ) (i g : ℕ) : Type 0 where
@@ -19,7 +16,7 @@ pub HasSoFar-next : (xs : List ℤ) (i : ℕ) (x g h : ℤ) → i < length xs �
 HasSoFar-next xs i x g h below read gcd has = record { divisors = λ d. (to d, from d) }
   where
     is : x ≡ get_or xs i (pos 0)
-    is = read ∙ get_or-default xs i x (pos 0) below
+    is = read ∙ get_or_default xs i x (pos 0) below
 
     to : (d : ℕ) → DividesAll d xs → (d ∣ unsigned_abs h) × DividesAll d (drop (i + 1) xs)
     to d all =
@@ -34,19 +31,6 @@ HasSoFar-next xs i x g h below read gcd has = record { divisors = λ d. (to d, f
 pub HasSoFar-all : (xs : List ℤ) (i g : ℕ) → length xs ≤ i → HasSoFar xs i g → IsGcdOfAll xs g
 HasSoFar-all xs i g end has = (IsGcdOfAll-divisors xs g).1 (λ d. (λ all. ((has.divisors d).0 all).0, λ p. (has.divisors d).1 (p, subst (DividesAll d) (sym (drop_all i xs end)) (DividesAll-nil d))))
 
--- every list is divided by 1
-one_divides : (xs : List ℤ) → DividesAll 1 xs
-one_divides xs k d h = one-dvd (unsigned_abs (get_or xs k d))
-
 -- the divisor 1 is final
 pub HasSoFar-one : (xs : List ℤ) (i g : ℕ) → g ≡ 1 → HasSoFar xs i g → IsGcdOfAll xs g
-HasSoFar-one xs i g e has = (subst (λ n. DividesAll n xs) (sym e) (one_divides xs), λ d all. ((has.divisors d).0 all).0)
-
--- divided by 1 a number is itself
-int_div-one : (x : ℤ) → int_div x (pos 1) ≡ x
-int_div-one x = sym (one-*ℤ (int_div x (pos 1))) ∙ int_div-mul_cancel x 1 (one-dvd (unsigned_abs x))
-
--- and so is a list
-pub quotients-one : (xs : List ℤ) → quotients xs (pos 1) ≡ xs
-quotients-one [] = refl
-quotients-one (x ∷ xs) = ap₂ (λ a b. a ∷ b) (int_div-one x) (quotients-one xs)
+HasSoFar-one xs i g e has = (subst (λ n. DividesAll n xs) (sym e) (DividesAll-one xs), λ d all. ((has.divisors d).0 all).0)
