@@ -1,4 +1,5 @@
-//! What the definitions in the contracts amount to: functions with no effect, whose contracts are the laws.
+//! What the definitions in the contracts amount to: functions that do nothing, whose contracts are the laws.
+
 ghost use Rattle.std.specs.Prelude.{◌≡◌, ◌-◌, ◌≤◌, ◌↔◌, false, length, slice_get, Some};
 ghost use Rattle.std.specs.List.{AllByRecursion};
 ghost use Rattle.judgement_matrix.specs.Range.{full};
@@ -9,31 +10,31 @@ ghost use Rattle.judgement_matrix.specs.Rows.{RowHolds, rows, IsFit};
 use crate::matrix::Matrix;
 use crate::tag::Fit;
 
-// Each pair stands at its place in pair order.
-fn pair_at_its_place(size: usize, p: usize, q: usize)
+/// States that each pair stands at its place in pair order. It does nothing.
+pub fn pair_at_its_place(size: usize, p: usize, q: usize)
     requires { IsPair size p q }
     ensures { slice_get (pairs size) (place size p q) ≡ Some (p, q) }
 {}
 
-// All pairs are those before the last element.
-fn number_of_pairs(size: usize)
+/// States that all pairs are those before the last element. It does nothing.
+pub fn number_of_pairs(size: usize)
     ensures { length (pairs size) ≡ pairs_before size (size - 1) }
 {}
 
-// In a new matrix each pair has the full range.
-fn nothing_judged(size: usize, p: usize, q: usize)
+/// States that in a new matrix each pair has the full range. It does nothing.
+pub fn nothing_judged(size: usize, p: usize, q: usize)
     requires { IsPair size p q }
     ensures { cell_at (unjudged size) p q ≡ (full, false) }
 {}
 
-// The constraints hold exactly where all rows do, over any denominator.
-fn met_where_rows_hold(matrix: &Matrix, values: &[i64], denominator: u64)
+/// States that the constraints hold exactly where all rows do, over any denominator. It does nothing.
+pub fn met_where_rows_hold(matrix: &Matrix, values: &[i64], denominator: u64)
     ensures { IsMetBy matrix.now values.now denominator
         ↔ AllByRecursion (RowHolds matrix.now values.now denominator) (rows matrix.now) }
 {}
 
-// A scale has one answer.
-fn one_fit(matrix: &Matrix, values: &[i64], denominator: u64, first: Fit, second: Fit)
+/// States that a scale has one answer. It does nothing.
+pub fn one_fit(matrix: &Matrix, values: &[i64], denominator: u64, first: Fit, second: Fit)
     requires first { IsFit matrix.now values.now denominator first }
     requires second { IsFit matrix.now values.now denominator second }
     ensures { first ≡ second }

@@ -1,7 +1,7 @@
 //! Matrices of semantic judgements, and when a scale meets one.
 #![tactic(auto)]
 
-mod laws;
+pub mod laws;
 mod matrix;
 mod meets;
 mod pairs;

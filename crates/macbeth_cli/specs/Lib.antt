@@ -1,3 +1,4 @@
+pub mod Code
 pub mod Entries
 pub mod Transcript
 pub mod Turn

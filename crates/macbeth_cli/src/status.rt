@@ -18,8 +18,13 @@ pub enum Status {
 }
 
 impl Status {
+    ghost use Rattle.macbeth_cli.specs.Code.{code_of};
+    ghost use Rattle.std.specs.Prelude.{◌≡◌};
+
     /// The exit status of the process.
-    pub fn code(self) -> u8 {
+    pub fn code(self) -> u8
+        ensures { result ≡ code_of self }
+    {
         match self {
             Status::Done => 0,
             Status::BadWords => 2,

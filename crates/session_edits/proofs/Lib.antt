@@ -1,4 +1,5 @@
-pub mod WordLemmas
+pub mod AnswerLemmas
+pub mod BothTests
 pub mod NameLemmas
 pub mod NumberLemmas
-pub mod AnswerLemmas
+pub mod WordLemmas
