@@ -94,9 +94,7 @@ impl Number {
         ensures { OkIff result (IsInRange (self *ℤ other)) (self *ℤ other) }
     {
         if let (Ok(left), Ok(right)) = (i64::try_from(self.value), i64::try_from(other.value)) {
-            return Ok(Number {
-                value: product_of_words(left, right),
-            });
+            return Number::make(product_of_words(left, right));
         }
         match self.value.checked_mul(other.value) {
             Some(product) => Number::make(product),
@@ -118,7 +116,7 @@ impl Number {
     {
         if let (Ok(number), Ok(by)) = (i64::try_from(self.value), i64::try_from(divisor.value)) {
             return Number {
-                value: i128::from(number / by),
+                value: i128::from(quotient_of_words(number, by)),
             };
         }
         Number {
@@ -166,10 +164,17 @@ impl Number {
 
 // The product, which no two words take out of range.
 fn product_of_words(a: i64, b: i64) -> i128
-    ensures value { result ≡ a *ℤ b }
-    ensures in_range { IsInRange result }
+    ensures { result ≡ a *ℤ b }
 {
     i128::from(a) * i128::from(b)
+}
+
+// The quotient, rounded toward 0.
+fn quotient_of_words(a: i64, b: i64) -> i64
+    requires { pos 0 <ℤ b }
+    ensures { result ≡ int_div a b }
+{
+    a / b
 }
 
 // Euclid's algorithm, which goes on with words of half the width once both numbers fit.

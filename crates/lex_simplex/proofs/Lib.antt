@@ -29,6 +29,7 @@ pub mod RunLemmas
 pub mod RunLoop
 pub mod RunSteps
 pub mod Scan
+pub mod SolveLemmas
 pub mod StartLemmas
 pub mod StartTable
 pub mod TableauRows
