@@ -74,7 +74,7 @@ pub record CanExchange (number : ℤ) (place : ℕ) (pivot row : List ℤ) : Typ
   pub den_pos : pos 0 <ℤ get_or row 0 (pos 0)
   pub none_of_den : get_or pivot 0 (pos 0) ≡ pos 0
 
--- the same for each row
+-- what a pivot makes of each row fits
 abbrev pub ExchangesFit : ℤ → ℕ → List ℤ → List (List ℤ) → Type 0
 ExchangesFit number place pivot [] = ⊤
 ExchangesFit number place pivot (row ∷ rows) = ExchangeFits number place pivot row × ExchangesFit number place pivot rows
