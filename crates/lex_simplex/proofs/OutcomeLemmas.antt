@@ -43,10 +43,12 @@ least_outcome p t ok h end point value cert same lowest cost reduced den on =
     let read : SameFractions values point = subst (λ v. SameFractions (map value_of (take v t.rows)) point) h.one_column_each same in
     let den_pos = least.least.feasible.den_pos in (
       record {
-        x = least.x;
-        n = least.n;
-        same = SameFractions-trans (over least.x least.n) values point (AreFractions-over least.x least.n den_pos) fractions (All-weaker IsReduced IsFraction (λ f r. r.0) point lowest) least.same read;
-        least = least.least;
+        is = record {
+          x = least.x;
+          n = least.n;
+          same = SameFractions-trans (over least.x least.n) values point (AreFractions-over least.x least.n den_pos) fractions (All-weaker IsReduced IsFraction (λ f r. r.0) point lowest) least.same read;
+          least = least.least;
+        };
         cost = SameFraction-trans (cost_at p least.x least.n) (value_of t.cost) value den_pos h.cost_fits.den_pos reduced.0 (cost_value p t h least.x least.n den_pos least.same) cost;
         point_reduced = lowest;
         value_reduced = reduced;

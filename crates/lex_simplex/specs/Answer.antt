@@ -18,13 +18,10 @@ pub record IsLeastPoint (p : ProblemData) (fs : List Fraction) : Type 0 where
   pub same : SameFractions (over x n) fs
   pub least : IsLeast p x n
 
--- they are the numbers of the least point and its cost, in lowest terms
+-- they are that and its cost, in lowest terms
 pub record IsLeastAnswer (p : ProblemData) (point : List Fraction) (value : Fraction) : Type 0 where
-  pub x : List ℤ
-  pub n : ℤ
-  pub same : SameFractions (over x n) point
-  pub least : IsLeast p x n
-  pub cost : SameFraction (cost_at p x n) value
+  pub is : IsLeastPoint p point
+  pub cost : SameFraction (cost_at p is.x is.n) value
   pub point_reduced : All IsReduced point
   pub value_reduced : IsReduced value
 

@@ -6,9 +6,10 @@ ghost use Rattle.integers.specs.Lexicographic.{LexLess};
 ghost use Rattle.integers.specs.Vector.{scale, unit_vector};
 ghost use Rattle.lex_simplex.specs.Columns.{column_set, IsChoice};
 ghost use Rattle.lex_simplex.specs.Equations.{IsTableauOf};
-ghost use Rattle.lex_simplex.specs.Tableau.{Tableau, start, row_of, entry, values};
-ghost use Rattle.lex_simplex.specs.Turn.{IsRun, Turns, ratios};
-ghost use Rattle.std.specs.Prelude.{◌≡◌, ◌≢◌, ℕ, suc, ◌+◌, ◌<◌, ◌<ℤ◌, length, get_or, pos, AllPairs, Result as Ended};
+ghost use Rattle.lex_simplex.specs.Pivot.{IsLeaving, IsEntering};
+ghost use Rattle.lex_simplex.specs.Tableau.{TableRow, Tableau, start, row_of, entry, values};
+ghost use Rattle.lex_simplex.specs.Turn.{IsRun, Turns, ratios, leaving, entering};
+ghost use Rattle.std.specs.Prelude.{◌≡◌, ◌≢◌, ◌↔◌, ℕ, suc, ◌+◌, ◌<◌, ◌<ℤ◌, ◌≤ℤ◌, length, get_or, pos, All, AllPairs, Some as SomePlace, None as NoPlace, Result as Ended};
 
 use crate::end::{End, PivotFault};
 use frac128::problem::Problem;
@@ -35,6 +36,17 @@ pub fn columns_stand_for_themselves(problem: &Problem)
 pub fn ratios_differ(problem: &Problem)
     ensures { (t : Tableau) (r e f : ℕ) → IsTableauOf problem.now t → r < length t.rows → e < length t.columns → f < length t.columns → e ≢ f
         → pos 0 <ℤ entry (row_of t r) e → pos 0 <ℤ entry (row_of t r) f → ¬ SameFractions (ratios t r e) (ratios t r f) }
+{}
+
+/// States that the pivot row is the first quantity whose constant is negative and that there is none exactly where no constant
+/// is; that the pivot column is the one whose ratios come first; and that there is none exactly where no number of the pivot row
+/// is positive. It does nothing.
+pub fn pivot_is_one(problem: &Problem)
+    ensures row { (t : Tableau) (r : ℕ) → (leaving t ≡ SomePlace r) ↔ IsLeaving t r }
+    ensures no_row { (t : Tableau) → (leaving t ≡ NoPlace) ↔ All (λ (row : TableRow). pos 0 ≤ℤ row.constant) t.rows }
+    ensures column { (t : Tableau) (r e : ℕ) → (entering t r ≡ SomePlace e) ↔ IsEntering t r e }
+    ensures no_column { (t : Tableau) (r : ℕ) → IsTableauOf problem.now t → r < length t.rows
+        → (entering t r ≡ NoPlace) ↔ ((f : ℕ) → f < length t.columns → entry (row_of t r) f ≤ℤ pos 0) }
 {}
 
 /// States that no set of columns comes back in a run, since the values of the cost and the variables rise lexicographically,

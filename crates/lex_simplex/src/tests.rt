@@ -71,7 +71,7 @@ const WIDE: [i128; 8] = [1, 1, (1 << 90) + 1, 3, 1, 7, 1 << 90, 1];
 /// The rows of a matrix of three elements, judged 3, 4 and 2.
 const MATRIX: [i128; 20] = [1, 1, 0, 1, 3, 1, 1, 4, 1, 0, 2, -1, 1, 1, 1, 0, 1, 0, 1, 2];
 
-/// The dual of Beale's example, which a rule by costs alone leads in a circle.
+/// The dual of Beale's example of a simplex method that goes in a circle.
 const BEALE: [i128; 19] = [
     0, 0, 1, 1, 2, 0, 3, -8, -12, 0, -20, -2, -1, 2, 1, 9, 3, 0, -6,
 ];
