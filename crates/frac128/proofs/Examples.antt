@@ -4,7 +4,7 @@ use Rattle.std.proofs.Common.{All, lit<, inl, inr, ℕ, ◌<◌, List, [], ◌�
 use Rattle.std.proofs.lemmas.List.Elements.{All-nil, All-cons, All-head, All-tail}
 use Rattle.integers.specs.Lexicographic.{LexLess}
 use Rattle.integers.proofs.Ring.{con, ◌⊕◌, ◌⊗◌, ◌≼◌, ◌≺◌, ◌✶◌, ◌⇐◌, combine2, combine3}
-use Rattle.frac128.specs.Problem.{ProblemData, IsRow, IsProblem, IsMetBy, IsFeasible, IsLeast, cost_and_numbers, AreEntries, IsSpanCertificate, IsFarkasCertificate}
+use Rattle.frac128.specs.Problem.{ProblemData, IsRow, IsProblem, IsRowMetBy, IsFeasible, IsLeast, cost_and_numbers, AreRowMultipliers, IsSpanCertificate, IsFarkasCertificate}
 use Rattle.frac128.specs.declared.problem.Row.{Row}
 use Rattle.frac128.specs.Range.{IsInRange}
 
@@ -30,7 +30,7 @@ costs_ok = record {
 }
 
 -- one row alone is named by its position
-one_entry : (y : ℤ) → pos 0 ≤ℤ y → AreEntries 1 ((0, y) ∷ [])
+one_entry : (y : ℤ) → pos 0 ≤ℤ y → AreRowMultipliers 1 ((0, y) ∷ [])
 one_entry y h = record {
   positions_rise = λ k more. absurd (omega arith);
   positions_below = All-cons (λ (e : ℕ × ℤ). e.0 < 1) (0, y) [] (omega arith) (All-nil (λ (e : ℕ × ℤ). e.0 < 1));
@@ -53,12 +53,12 @@ three_feasible = record {
   den_pos = lt_z_yes tt;
   one_each = refl;
   nonneg = All-cons (λ x. pos 0 ≤ℤ x) (pos 3) (pos 0 ∷ []) (le_z_yes tt) (All-cons (λ x. pos 0 ≤ℤ x) (pos 0) [] (le_z_yes tt) (All-nil (λ x. pos 0 ≤ℤ x)));
-  meets = All-cons (IsMetBy (pos 3 ∷ pos 0 ∷ []) (pos 1)) gap [] (le_z_yes tt) (All-nil (IsMetBy (pos 3 ∷ pos 0 ∷ []) (pos 1)));
+  meets = All-cons (IsRowMetBy (pos 3 ∷ pos 0 ∷ []) (pos 1)) gap [] (le_z_yes tt) (All-nil (IsRowMetBy (pos 3 ∷ pos 0 ∷ []) (pos 1)));
 }
 
 -- the row at a point of two numbers
 met : (a b m : ℤ) → IsFeasible costs (a ∷ b ∷ []) m → (pos 3 *ℤ m) ≤ℤ (pos 1 *ℤ a +ℤ (negsuc 0 *ℤ b +ℤ pos 0))
-met a b m f = All-head (IsMetBy (a ∷ b ∷ []) m) gap [] f.meets
+met a b m f = All-head (IsRowMetBy (a ∷ b ∷ []) m) gap [] f.meets
 
 -- the second number is not negative
 second : (a b m : ℤ) → IsFeasible costs (a ∷ b ∷ []) m → pos 0 ≤ℤ b
@@ -90,7 +90,6 @@ three_least = record { feasible = three_feasible; none_before = none }
 -- the row -x ≥ 1 is met by no number of at least 0
 pub refuted : IsFarkasCertificate (record { vars = 1; cost = pos 0 ∷ []; rows = record { coefs = negsuc 0 ∷ []; bound = pos 1 } ∷ [] }) (record { den = pos 1; on = (0, pos 1) ∷ [] })
 refuted = record {
-  den_one = refl;
   entries = one_entry (pos 1) (le_z_yes tt);
   none_above = All-cons (λ c. c ≤ℤ pos 0) (negsuc 0) [] (le_z_yes tt) (All-nil (λ c. c ≤ℤ pos 0));
   bound_above = lt_z_yes tt;

@@ -8,7 +8,7 @@ use Rattle.integers.proofs.Divisibility.{unsigned_abs-neg, quotient_positive, qu
 use Rattle.integers.proofs.Gcd.{AreCoprime_comm, dvd_of_coprime}
 use Rattle.integers.proofs.Order.{le_of_lt, mul_pos}
 use Rattle.integers.proofs.Ring.{con, neg, ◌⊕◌, ◌⊖◌, ◌⊗◌, ◌≗◌, ◌✶◌, ◌⇐◌, combine6, combine9, combine10}
-use Rattle.frac128.specs.Frac.{turned_over}
+use Rattle.frac128.specs.Frac.{reciprocal}
 use Rattle.frac128.proofs.Numbers.{lowest_parts}
 
 -- ---- the values
@@ -82,6 +82,6 @@ pub IsLowest-neg_comm : (a b : ℤ) → IsLowest a b → IsLowest (neg_ℤ b) (n
 IsLowest-neg_comm a b h = subst₂ (λ m n. AreCoprime m n) (sym (unsigned_abs-neg b)) (sym (unsigned_abs-neg a)) (IsLowest-comm a b h)
 
 -- a product with the fraction c/d turned over is the quotient
-pub quotient_value : (a b c d n m : ℤ) → n *ℤ (b *ℤ (turned_over c d).den) ≡ a *ℤ (turned_over c d).num *ℤ m → n *ℤ (b *ℤ c) ≡ a *ℤ d *ℤ m
+pub quotient_value : (a b c d n m : ℤ) → n *ℤ (b *ℤ (reciprocal c d).den) ≡ a *ℤ (reciprocal c d).num *ℤ m → n *ℤ (b *ℤ c) ≡ a *ℤ d *ℤ m
 quotient_value a b (pos c) d n m h = h
 quotient_value a b (negsuc c) d n m h = combine6 (λ a b c d n m. n ⊗ (b ⊗ c) ≗ a ⊗ d ⊗ m ⇐ neg (con (pos 1)) ✶ (n ⊗ (b ⊗ neg c) ≗ a ⊗ neg d ⊗ m) ∷ []) refl a b (negsuc c) d n m h

@@ -12,7 +12,7 @@ use Rattle.integers.proofs.Order.{cancel_le, fraction_eq_le, le_of_lt, mul_nonne
 use Rattle.integers.proofs.Ring.{con, ◌⊗◌, ◌≗◌, ◌≼◌, ◌✶◌, ◌⇐◌, combine5}
 use Rattle.integers.proofs.Vector.{dot-scale_right}
 use Rattle.integers.proofs.VectorOrder.{AreAtMost-trans, weak_duality_over, farkas, AreAtMost-add_zeros, AreAtMost-nil}
-use Rattle.frac128.specs.Problem.{ProblemData, IsMetBy, IsFeasible, IsInfeasible, cost_at, IsLowerBound, cost_and_numbers, IsLeast, row_at, multipliers, rows_on, IsSpanCertificate, IsFarkasCertificate}
+use Rattle.frac128.specs.Problem.{ProblemData, IsRowMetBy, IsFeasible, IsInfeasible, cost_at, IsLowerBound, cost_and_numbers, IsLeast, row_at, multipliers, rows_on, IsSpanCertificate, IsFarkasCertificate}
 use Rattle.frac128.specs.declared.problem.Cert.{Cert}
 use Rattle.frac128.specs.declared.problem.Row.{Row}
 
@@ -32,10 +32,10 @@ multipliers_nonneg [] h = All-nil (λ x. pos 0 ≤ℤ x)
 multipliers_nonneg (e ∷ on) h = All-cons (λ x. pos 0 ≤ℤ x) e.1 (multipliers on) (All-head (λ (e : ℕ × ℤ). pos 0 ≤ℤ e.1) e on h) (multipliers_nonneg on (All-tail (λ (e : ℕ × ℤ). pos 0 ≤ℤ e.1) e on h))
 
 -- a point that meets all rows meets those at the positions
-pub meets_on : (rows : List Row) (x : List ℤ) (n : ℤ) → All (IsMetBy x n) rows → (on : List (ℕ × ℤ)) → All (λ (e : ℕ × ℤ). e.0 < length rows) on → AreAtMost (scale n (bounds_on rows on)) (dot_each (coefs_on rows on) x)
+pub meets_on : (rows : List Row) (x : List ℤ) (n : ℤ) → All (IsRowMetBy x n) rows → (on : List (ℕ × ℤ)) → All (λ (e : ℕ × ℤ). e.0 < length rows) on → AreAtMost (scale n (bounds_on rows on)) (dot_each (coefs_on rows on) x)
 meets_on rows x n meets [] below = tt
 meets_on rows x n meets (e ∷ on) below =
-    let met = All-get_or (IsMetBy x n) rows e.0 (record { coefs = []; bound = pos 0 }) (All-head (λ (e : ℕ × ℤ). e.0 < length rows) e on below) meets in
+    let met = All-get_or (IsRowMetBy x n) rows e.0 (record { coefs = []; bound = pos 0 }) (All-head (λ (e : ℕ × ℤ). e.0 < length rows) e on below) meets in
     (subst (λ z. z ≤ℤ dot (row_at rows e.0).coefs x) (*ℤ_comm (row_at rows e.0).bound n) met, meets_on rows x n meets on (All-tail (λ (e : ℕ × ℤ). e.0 < length rows) e on below))
 
 -- ---- certificates
@@ -93,8 +93,8 @@ AreNonNegative-same (a ∷ x) n (b ∷ y) m pn pm s h =
     All-cons (λ x. pos 0 ≤ℤ x) b y (nonneg_of_mul b n pn (subst (λ z. pos 0 ≤ℤ z) s.0 first)) (AreNonNegative-same x n y m pn pm s.1 (All-tail (λ x. pos 0 ≤ℤ x) a x h))
 
 -- a row that a point meets is met in another writing
-pub IsMetBy-same : (x : List ℤ) (n : ℤ) (y : List ℤ) (m : ℤ) (row : Row) → pos 0 <ℤ n → pos 0 <ℤ m → SameFractions (over x n) (over y m) → IsMetBy x n row → IsMetBy y m row
-IsMetBy-same x n y m row pn pm s h = cancel_le (row.bound *ℤ m) (dot row.coefs y) n pn (combine5 (λ b n m d e. b ⊗ m ⊗ n ≼ e ⊗ n ⇐ m ✶ (b ⊗ n ≼ d) ∷ con (pos 1) ✶ (m ⊗ d ≗ n ⊗ e) ∷ []) refl row.bound n m (dot row.coefs x) (dot row.coefs y) (le_of_lt (pos 0) m pm) h (dot-same row.coefs x n y m s))
+pub IsRowMetBy-same : (x : List ℤ) (n : ℤ) (y : List ℤ) (m : ℤ) (row : Row) → pos 0 <ℤ n → pos 0 <ℤ m → SameFractions (over x n) (over y m) → IsRowMetBy x n row → IsRowMetBy y m row
+IsRowMetBy-same x n y m row pn pm s h = cancel_le (row.bound *ℤ m) (dot row.coefs y) n pn (combine5 (λ b n m d e. b ⊗ m ⊗ n ≼ e ⊗ n ⇐ m ✶ (b ⊗ n ≼ d) ∷ con (pos 1) ✶ (m ⊗ d ≗ n ⊗ e) ∷ []) refl row.bound n m (dot row.coefs x) (dot row.coefs y) (le_of_lt (pos 0) m pm) h (dot-same row.coefs x n y m s))
 
 -- a point meets a problem however it is written
 pub IsFeasible-same : (p : ProblemData) (x : List ℤ) (n : ℤ) (y : List ℤ) (m : ℤ) → pos 0 <ℤ m → SameFractions (over x n) (over y m) → IsFeasible p x n → IsFeasible p y m
@@ -102,7 +102,7 @@ IsFeasible-same p x n y m pm s f = record {
   den_pos = pm;
   one_each = sym (length-over y m) ∙ sym (SameFractions-length (over x n) (over y m) s) ∙ length-over x n ∙ f.one_each;
   nonneg = AreNonNegative-same x n y m f.den_pos pm s f.nonneg;
-  meets = λ k d below. IsMetBy-same x n y m (get_or p.rows k d) f.den_pos pm s (f.meets k d below);
+  meets = λ k d below. IsRowMetBy-same x n y m (get_or p.rows k d) f.den_pos pm s (f.meets k d below);
 }
 
 -- a point is least however it is written

@@ -25,9 +25,9 @@ abbrev pub fraction_quotient : Fraction → Fraction → Fraction
 fraction_quotient f g = record { num = f.num *ℤ g.den; den = f.den *ℤ g.num }
 
 -- den/num, with the sign in the numerator
-abbrev pub turned_over : ℤ → ℤ → Fraction
-turned_over (pos n) den = record { num = den; den = pos n }
-turned_over (negsuc n) den = record { num = neg_ℤ den; den = pos (suc n) }
+abbrev pub reciprocal : ℤ → ℤ → Fraction
+reciprocal (pos n) den = record { num = den; den = pos n }
+reciprocal (negsuc n) den = record { num = neg_ℤ den; den = pos (suc n) }
 
 -- a*(d/k), c*(b/k), their sum and b*(d/k) are in the range
 abbrev pub SumFitsBy : ℤ → Fraction → Fraction → Type 0
@@ -65,4 +65,4 @@ ProductFits f g = (k l : ℕ) → IsGcdOf f.num g.den k → IsGcdOf g.num f.den 
 
 -- so are the numbers that a quotient is formed of
 abbrev pub QuotientFits : Fraction → Fraction → Type 0
-QuotientFits f g = ProductFits f (turned_over g.num g.den)
+QuotientFits f g = ProductFits f (reciprocal g.num g.den)

@@ -30,15 +30,15 @@ pub record IsProblem (p : ProblemData) : Type 0 where
 -- ---- points: x over n is the list of the fractions of each number of x over n
 
 -- the point x over n meets the row: coefs·x / n ≥ bound
-abbrev pub IsMetBy : List ℤ → ℤ → Row → Type 0
-IsMetBy x n row = (row.bound *ℤ n) ≤ℤ dot row.coefs x
+abbrev pub IsRowMetBy : List ℤ → ℤ → Row → Type 0
+IsRowMetBy x n row = (row.bound *ℤ n) ≤ℤ dot row.coefs x
 
 -- the point x over n meets the problem
 pub record IsFeasible (p : ProblemData) (x : List ℤ) (n : ℤ) : Type 0 where
   pub den_pos : pos 0 <ℤ n
   pub one_each : length x ≡ p.vars
   pub nonneg : AreNonNegative x
-  pub meets : All (IsMetBy x n) p.rows
+  pub meets : All (IsRowMetBy x n) p.rows
 
 -- no point meets the problem
 abbrev pub IsInfeasible : ProblemData → Type 0
@@ -64,7 +64,7 @@ pub record IsLeast (p : ProblemData) (x : List ℤ) (n : ℤ) : Type 0 where
 -- ---- certificates: rows by position, from 0 on, each with its multiplier
 
 -- the positions rise, each is one of a row, and no multiplier is below 0
-pub record AreEntries (count : ℕ) (on : List (ℕ × ℤ)) : Type 0 where
+pub record AreRowMultipliers (count : ℕ) (on : List (ℕ × ℤ)) : Type 0 where
   pub positions_rise : IsStrictlyIncreasing (map (λ (e : ℕ × ℤ). e.0) on)
   pub positions_below : All (λ (e : ℕ × ℤ). e.0 < count) on
   pub nonneg : All (λ (e : ℕ × ℤ). pos 0 ≤ℤ e.1) on
@@ -92,13 +92,12 @@ combination p on = record {
 pub record IsSpanCertificate (p : ProblemData) (cert : Cert) (value : Fraction) : Type 0 where
   pub den_pos : pos 0 <ℤ cert.den
   pub value_den_pos : IsFraction value
-  pub entries : AreEntries (length p.rows) cert.on
+  pub entries : AreRowMultipliers (length p.rows) cert.on
   pub below_cost : AreAtMost (combination p cert.on).coefs (scale cert.den p.cost)
   pub value_is : SameFraction (record { num = (combination p cert.on).bound; den = cert.den }) value
 
 -- a combination of rows with no coefficient above 0 and with a bound above 0
 pub record IsFarkasCertificate (p : ProblemData) (cert : Cert) : Type 0 where
-  pub den_one : cert.den ≡ pos 1
-  pub entries : AreEntries (length p.rows) cert.on
+  pub entries : AreRowMultipliers (length p.rows) cert.on
   pub none_above : All (λ c. c ≤ℤ pos 0) (combination p cert.on).coefs
   pub bound_above : pos 0 <ℤ (combination p cert.on).bound

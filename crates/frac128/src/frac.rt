@@ -1,6 +1,6 @@
 //! Exact fractions in lowest terms, whose parts are within -(2^127 - 1) to 2^127 - 1.
 
-ghost use Rattle.frac128.specs.Frac.{IsReduced, fraction_sum, fraction_difference, fraction_product, fraction_quotient, turned_over, SumFits, SumFitsBy, DifferenceFits, DifferenceFitsBy, ProductFits, ProductFitsBy, QuotientFits};
+ghost use Rattle.frac128.specs.Frac.{IsReduced, fraction_sum, fraction_difference, fraction_product, fraction_quotient, reciprocal, SumFits, SumFitsBy, DifferenceFits, DifferenceFitsBy, ProductFits, ProductFitsBy, QuotientFits};
 ghost use Rattle.frac128.specs.Range.{IsInRange};
 ghost use Rattle.integers.specs.Divisibility.{IsLowest, IsGcdOf};
 ghost use Rattle.integers.specs.Fraction.{SameFraction};
@@ -185,7 +185,7 @@ impl Frac {
     // The fraction turned over.
     fn inverse(&self) -> Frac
         requires { self.now.num ≢ pos 0 }
-        ensures { result ≡ turned_over self.now.num self.now.den }
+        ensures { result ≡ reciprocal self.now.num self.now.den }
     {
         if self.num < Number::ZERO {
             Frac {

@@ -14,7 +14,7 @@ use Rattle.integers.proofs.Vector.{dot-nil, dot_comm, dot-set, dot-zeros, dot-un
 use Rattle.integers.proofs.VectorLaws.{dot-split}
 use Rattle.integers.proofs.Lists.{AllPairs-head, AllPairs-tail}
 use Rattle.integers.proofs.Zeros.{get_or-zeros}
-use Rattle.frac128.specs.Problem.{ProblemData, IsProblem, AreEntries, row_at, multipliers, rows_on, combination}
+use Rattle.frac128.specs.Problem.{ProblemData, IsProblem, AreRowMultipliers, row_at, multipliers, rows_on, combination}
 use Rattle.frac128.specs.declared.problem.Row.{Row}
 use Rattle.frac128.proofs.Combination.{get_or-combination, below_cost-from_places, column_of-map}
 use Rattle.lex_simplex.specs.Answer.{spread, entries_from, row_entries}
@@ -59,7 +59,7 @@ entries_nonneg i (w ∷ ws) h =
     entries_cases (λ on. All (λ (e : ℕ × ℤ). pos 0 ≤ℤ e.1) on) i w ws (λ z. rest) (All-cons (λ (e : ℕ × ℤ). pos 0 ≤ℤ e.1) (i, w) (entries_from (suc i) ws) (All-head (λ x. pos 0 ≤ℤ x) w ws h) rest)
 
 -- weights that are not negative give entries
-pub entries_of_weights : (p : ProblemData) (w : List ℤ) → length w ≡ p.vars + length p.rows → AreNonNegative w → AreEntries (length p.rows) (row_entries p.vars w)
+pub entries_of_weights : (p : ProblemData) (w : List ℤ) → length w ≡ p.vars + length p.rows → AreNonNegative w → AreRowMultipliers (length p.rows) (row_entries p.vars w)
 entries_of_weights p w l h = record {
   positions_rise = λ k below. entries_rise 0 (drop p.vars w) k (k + 1) 0 (omega arith) below;
   positions_below = entries_below (length p.rows) 0 (drop p.vars w) (omega (arith, length-drop p.vars w));

@@ -10,7 +10,7 @@ use Rattle.integers.proofs.Ring.{con, neg, ◌⊕◌, ◌⊖◌, ◌⊗◌, ◌�
 use Rattle.integers.proofs.Vector.{dot-set, dot-scale}
 use Rattle.integers.proofs.VectorOrder.{none_above_zero, opposites_nonneg}
 use Rattle.integers.proofs.Zeros.{get_or-zeros}
-use Rattle.frac128.specs.Problem.{ProblemData, IsProblem, IsInfeasible, AreEntries, combination, IsFarkasCertificate}
+use Rattle.frac128.specs.Problem.{ProblemData, IsProblem, IsInfeasible, AreRowMultipliers, combination, IsFarkasCertificate}
 use Rattle.frac128.specs.declared.problem.Cert.{Cert}
 use Rattle.frac128.proofs.ProblemLaws.{farkas_certificate_refutes}
 use Rattle.lex_simplex.specs.Answer.{spread, row_entries, empty_weights}
@@ -63,8 +63,8 @@ empty_weights_nonneg p t r h below most =
 -- ---- the certificate
 
 -- the certificate of these weights refutes all points
-pub empty_certificate : (p : ProblemData) (t : Tableau) (r : ℕ) → IsProblem p → IsTableauOf p t → r < length t.rows → (row_of t r).constant <ℤ pos 0 → ((f : ℕ) → entry (row_of t r) f ≤ℤ pos 0) → (cert : Cert) → cert.den ≡ pos 1 → cert.on ≡ row_entries p.vars (empty_weights t r) → IsFarkasCertificate p cert
-empty_certificate p t r ok h below negative most cert den on =
+pub empty_certificate : (p : ProblemData) (t : Tableau) (r : ℕ) → IsProblem p → IsTableauOf p t → r < length t.rows → (row_of t r).constant <ℤ pos 0 → ((f : ℕ) → entry (row_of t r) f ≤ℤ pos 0) → (cert : Cert) → cert.on ≡ row_entries p.vars (empty_weights t r) → IsFarkasCertificate p cert
+empty_certificate p t r ok h below negative most cert on =
     let w : List ℤ = empty_weights t r in
     let bound : ℤ = neg_ℤ (row_of t r).constant in
     let long = empty_weights-length p t r h in
@@ -74,8 +74,7 @@ empty_certificate p t r ok h below negative most cert den on =
     let above : pos 0 <ℤ bound = omega (arith, lin, negative) in
     let coefs = coefs_of_weights p ok w (pos 0) bound long nonneg sum in
     record {
-      den_one = den;
-      entries = subst (AreEntries (length p.rows)) (sym on) (entries_of_weights p w long nonneg);
+      entries = subst (AreRowMultipliers (length p.rows)) (sym on) (entries_of_weights p w long nonneg);
       none_above = subst (λ (o : List (ℕ × ℤ)). All (λ c. c ≤ℤ pos 0) (combination p o).coefs) (sym on) (none_above_zero (combination p (row_entries p.vars w)).coefs p.cost coefs);
       bound_above = subst (λ b. pos 0 <ℤ b) (sym is) above;
     }
@@ -84,4 +83,4 @@ empty_certificate p t r ok h below negative most cert den on =
 pub empty_infeasible : (p : ProblemData) (t : Tableau) (r : ℕ) → IsProblem p → IsTableauOf p t → r < length t.rows → (row_of t r).constant <ℤ pos 0 → ((f : ℕ) → entry (row_of t r) f ≤ℤ pos 0) → IsInfeasible p
 empty_infeasible p t r ok h below negative most =
     let cert : Cert = record { den = pos 1; on = row_entries p.vars (empty_weights t r) } in
-    farkas_certificate_refutes p cert (empty_certificate p t r ok h below negative most cert refl refl)
+    farkas_certificate_refutes p cert (empty_certificate p t r ok h below negative most cert refl)

@@ -7,7 +7,7 @@ use Rattle.integers.specs.Fraction.{Fraction, IsFraction, SameFraction}
 use Rattle.integers.specs.Vector.{dot, scale, AreNonNegative, AreAtMost}
 use Rattle.integers.proofs.Laws.{lin}
 use Rattle.integers.proofs.Lexicographic.{IsLexPositive-first}
-use Rattle.frac128.specs.Problem.{ProblemData, IsProblem, AreEntries, combination, IsSpanCertificate}
+use Rattle.frac128.specs.Problem.{ProblemData, IsProblem, AreRowMultipliers, combination, IsSpanCertificate}
 use Rattle.frac128.specs.declared.problem.Cert.{Cert}
 use Rattle.lex_simplex.specs.Answer.{row_entries, optimal_weights}
 use Rattle.lex_simplex.specs.Tableau.{TableRow, Tableau, entry, value_of}
@@ -44,7 +44,7 @@ optimal_certificate p t ok h cert den on value fraction same =
     record {
       den_pos = subst (λ d. pos 0 <ℤ d) (sym den) h.cost_fits.den_pos;
       value_den_pos = fraction;
-      entries = subst (AreEntries (length p.rows)) (sym on) (entries_of_weights p w long nonneg);
+      entries = subst (AreRowMultipliers (length p.rows)) (sym on) (entries_of_weights p w long nonneg);
       below_cost = subst₂ (λ (o : List (ℕ × ℤ)) d. AreAtMost (combination p o).coefs (scale d p.cost)) (sym on) (sym den) below;
       value_is = subst₂ (λ b d. b *ℤ value.den ≡ value.num *ℤ d) (sym bound) (sym den) same;
     }

@@ -13,7 +13,7 @@ use Rattle.integers.proofs.LexOrder.{LexLess-over}
 use Rattle.integers.proofs.Lists.{All-parts}
 use Rattle.integers.proofs.VectorOrder.{below_length, dot_cases}
 use Rattle.integers.proofs.Zeros.{AreZero-cons, AreZero-head, AreZero-tail}
-use Rattle.frac128.specs.Problem.{ProblemData, IsProblem, IsMetBy, IsFeasible, cost_at, cost_and_numbers}
+use Rattle.frac128.specs.Problem.{ProblemData, IsProblem, IsRowMetBy, IsFeasible, cost_at, cost_and_numbers}
 use Rattle.frac128.specs.declared.problem.Row.{Row}
 use Rattle.frac128.proofs.ProblemLaws.{cost_and_numbers-same}
 use Rattle.lex_simplex.specs.Answer.{IsLeastPoint}
@@ -105,14 +105,14 @@ none_below (x ∷ X) (y ∷ Y) us k m (row ∷ rows) pk dens s h c p = step c p 
 -- ---- what is feasible
 
 -- rows whose surpluses are not negative are met
-met_from_surpluses : (x : List ℤ) (n : ℤ) (rows : List Row) → AreNonNegative (map (surplus x n) rows) → All (IsMetBy x n) rows
-met_from_surpluses x n [] h = All-nil (IsMetBy x n)
-met_from_surpluses x n (row ∷ rows) h = All-cons (IsMetBy x n) row rows (let k = All-head (λ x. pos 0 ≤ℤ x) (surplus x n row) (map (surplus x n) rows) h in omega (arith, lin)) (met_from_surpluses x n rows (All-tail (λ x. pos 0 ≤ℤ x) (surplus x n row) (map (surplus x n) rows) h))
+met_from_surpluses : (x : List ℤ) (n : ℤ) (rows : List Row) → AreNonNegative (map (surplus x n) rows) → All (IsRowMetBy x n) rows
+met_from_surpluses x n [] h = All-nil (IsRowMetBy x n)
+met_from_surpluses x n (row ∷ rows) h = All-cons (IsRowMetBy x n) row rows (let k = All-head (λ x. pos 0 ≤ℤ x) (surplus x n row) (map (surplus x n) rows) h in omega (arith, lin)) (met_from_surpluses x n rows (All-tail (λ x. pos 0 ≤ℤ x) (surplus x n row) (map (surplus x n) rows) h))
 
 -- and the converse
-surpluses_from_met : (x : List ℤ) (n : ℤ) (rows : List Row) → All (IsMetBy x n) rows → AreNonNegative (map (surplus x n) rows)
+surpluses_from_met : (x : List ℤ) (n : ℤ) (rows : List Row) → All (IsRowMetBy x n) rows → AreNonNegative (map (surplus x n) rows)
 surpluses_from_met x n [] h = All-nil (λ x. pos 0 ≤ℤ x)
-surpluses_from_met x n (row ∷ rows) h = All-cons (λ x. pos 0 ≤ℤ x) (surplus x n row) (map (surplus x n) rows) (let k = All-head (IsMetBy x n) row rows h in omega (arith, lin)) (surpluses_from_met x n rows (All-tail (IsMetBy x n) row rows h))
+surpluses_from_met x n (row ∷ rows) h = All-cons (λ x. pos 0 ≤ℤ x) (surplus x n row) (map (surplus x n) rows) (let k = All-head (IsRowMetBy x n) row rows h in omega (arith, lin)) (surpluses_from_met x n rows (All-tail (IsRowMetBy x n) row rows h))
 
 -- the quantities of a point that meets the problem are not negative
 pub quantities_nonneg : (p : ProblemData) (x : List ℤ) (n : ℤ) → IsFeasible p x n → AreNonNegative (quantities p x n)

@@ -62,4 +62,4 @@ nothing_outcome p t r ok h leaving end cert den on =
     let found = turn_empty p t h end in
     let same : found.0 ≡ r = cc ((leaving-some t found.0).1 found.1, (leaving-some t r).1 leaving) in
     let most = subst (λ q. (f : ℕ) → entry (row_of t q) f ≤ℤ pos 0) same found.2 in
-    (empty_infeasible p t r ok h leaving.below leaving.negative most, empty_certificate p t r ok h leaving.below leaving.negative most cert den (subst (λ v. cert.on ≡ row_entries v (empty_weights t r)) h.one_column_each on))
+    (empty_infeasible p t r ok h leaving.below leaving.negative most, empty_certificate p t r ok h leaving.below leaving.negative most cert (subst (λ v. cert.on ≡ row_entries v (empty_weights t r)) h.one_column_each on), den)

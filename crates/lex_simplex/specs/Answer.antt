@@ -1,5 +1,5 @@
 -- What is read from the last tableau of a run.
-use Rattle.std.specs.Prelude.{ℕ, All, suc, true, false, List, [], ◌∷◌, set, drop, length, replicate, ℤ, pos, negsuc}
+use Rattle.std.specs.Prelude.{◌≡◌, ℕ, All, suc, true, false, List, [], ◌∷◌, set, drop, length, replicate, ℤ, pos, negsuc}
 use Rattle.std.specs.Ordering.{int_eq}
 use Rattle.frac128.specs.Problem.{ProblemData, IsLeast, IsInfeasible, IsSpanCertificate, IsFarkasCertificate, cost_at}
 use Rattle.frac128.specs.Frac.{IsReduced}
@@ -25,10 +25,10 @@ pub record IsLeastAnswer (p : ProblemData) (point : List Fraction) (value : Frac
   pub point_reduced : All IsReduced point
   pub value_reduced : IsReduced value
 
--- what the outcome says of the problem is so
+-- what the outcome says of the problem is so; a refutation is in whole numbers
 abbrev pub IsOutcome : ProblemData → Outcome → Type 0
 IsOutcome p (Least point value cert) = IsLeastAnswer p point value × IsSpanCertificate p cert value
-IsOutcome p (Nothing cert) = IsInfeasible p × IsFarkasCertificate p cert
+IsOutcome p (Nothing cert) = IsInfeasible p × IsFarkasCertificate p cert × (cert.den ≡ pos 1)
 
 -- the end of the run that the outcome tells
 abbrev pub end_of : Outcome → End

@@ -1,7 +1,7 @@
 use Rattle.std.proofs.lemmas.Result.{IfOk-weaker}
 use Rattle.std.proofs.Common.{OnOk, OnErr, IfOk, subst}
 use Rattle.integers.specs.Fraction.{SameFraction}
-use Rattle.frac128.specs.Frac.{ProductFits, fraction_product, fraction_quotient, turned_over}
+use Rattle.frac128.specs.Frac.{ProductFits, fraction_product, fraction_quotient, reciprocal}
 use Rattle.frac128.proofs.Fits.{quotient_value}
 use Rattle.frac128.proofs.frac.Frac.div.Goals as goal
 
@@ -16,4 +16,4 @@ pub returns-clause-value : goal.returns-clause-value
 returns-clause-value c =
     let f = c.args.self.now in
     let g = c.args.other.now in
-    IfOk-weaker c.mul.result (λ r. SameFraction r (fraction_product f (turned_over g.num g.den))) (λ r. SameFraction r (fraction_quotient f g)) (λ r h. quotient_value f.num f.den g.num g.den r.num r.den h) (subst (λ t. IfOk c.mul.result (λ r. SameFraction r (fraction_product f t))) c.inverse.ensures c.mul.ensures.value)
+    IfOk-weaker c.mul.result (λ r. SameFraction r (fraction_product f (reciprocal g.num g.den))) (λ r. SameFraction r (fraction_quotient f g)) (λ r h. quotient_value f.num f.den g.num g.den r.num r.den h) (subst (λ t. IfOk c.mul.result (λ r. SameFraction r (fraction_product f t))) c.inverse.ensures c.mul.ensures.value)
