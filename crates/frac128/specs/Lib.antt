@@ -1,4 +1,5 @@
 pub mod Decimal
+pub mod Entries
 pub mod Frac
 pub mod Problem
 pub mod Range

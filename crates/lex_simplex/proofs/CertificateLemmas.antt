@@ -1,12 +1,9 @@
 -- What is read from weights of the quantities: the entries of a certificate, and the sums that they give.
-use lib.IntN.{*ℤ-zero, zero-*ℤ, +ℤ_idl, +ℤ_idr}
+use lib.IntN.{*ℤ-zero, +ℤ_idl, +ℤ_idr}
 use lib.ListN.{length-replicate, length-set, length-drop, length-take}
-use Rattle.std.proofs.Common.{◌≡◌, ◌≢◌, Bool, true, false, ℕ, suc, ◌+◌, ◌<◌, ◌≤◌, length, map, take, drop, get_or, set, replicate, List, [], ◌∷◌, All, AllPairs, ℤ, pos, negsuc, ◌+ℤ◌, ◌-ℤ◌, ◌*ℤ◌, neg_ℤ, ◌≤ℤ◌, refl, sym, ap, ap₂, subst, ◌∙◌, arith}
-use Rattle.std.specs.Ordering.{int_eq}
-use Rattle.std.proofs.lemmas.Bool.Decides.{Decides-int_eq}
+use Rattle.std.proofs.Common.{◌≡◌, ◌≢◌, ℕ, ◌+◌, ◌<◌, length, map, take, drop, get_or, set, replicate, List, [], ◌∷◌, All, AllPairs, ℤ, pos, negsuc, ◌+ℤ◌, ◌-ℤ◌, ◌*ℤ◌, neg_ℤ, ◌≤ℤ◌, refl, sym, ap, ap₂, subst, ◌∙◌, arith}
 use Rattle.std.proofs.lemmas.List.{take_at, drop_at, get_or-set_other}
-use Rattle.std.proofs.lemmas.List.Elements.{All-nil, All-cons, All-head, All-tail, All-map, All-weaker, All-drop, All-take, All-set, All-get_or}
-use Rattle.std.proofs.lemmas.List.Kept.{AllPairs-cons}
+use Rattle.std.proofs.lemmas.List.Elements.{All-head, All-tail, All-drop, All-take, All-set, All-get_or}
 use Rattle.integers.specs.Vector.{dot, scale, unit_vector, AreNonNegative, AreAtMost}
 use Rattle.integers.proofs.Laws.{lin}
 use Rattle.integers.proofs.Ring.{con, neg, ◌⊕◌, ◌⊖◌, ◌⊗◌, ◌≗◌, ◌✶◌, ◌⇐◌, ring3, combine3, combine5}
@@ -14,69 +11,22 @@ use Rattle.integers.proofs.Vector.{dot-nil, dot_comm, dot-set, dot-zeros, dot-un
 use Rattle.integers.proofs.VectorLaws.{dot-split}
 use Rattle.integers.proofs.Lists.{AllPairs-head, AllPairs-tail}
 use Rattle.integers.proofs.Zeros.{get_or-zeros}
-use Rattle.frac128.specs.Problem.{ProblemData, IsProblem, AreRowMultipliers, row_at, multipliers, rows_on, combination}
+use Rattle.frac128.specs.Problem.{ProblemData, IsProblem, AreRowMultipliers, combination}
 use Rattle.frac128.specs.declared.problem.Row.{Row}
-use Rattle.frac128.proofs.Combination.{get_or-combination, below_cost-from_places, column_of-map}
-use Rattle.lex_simplex.specs.Answer.{spread, entries_from, row_entries}
+use Rattle.frac128.proofs.Combination.{below_cost-from_places}
+use Rattle.frac128.proofs.EntriesLemmas.{AreRowMultipliers-from, entries-bound, entries-coef}
+use Rattle.lex_simplex.specs.Answer.{spread, row_entries}
 use Rattle.lex_simplex.specs.Equations.{surplus, quantities, in_columns}
 
 -- ---- entries
 
--- what holds without a weight where it is 0, and with it, holds of the entries with it
-entries_cases : (P : List (ℕ × ℤ) → Type 0) (i : ℕ) (w : ℤ) (ws : List ℤ) → (w ≡ pos 0 → P (entries_from (suc i) ws)) → P ((i, w) ∷ entries_from (suc i) ws) → P (entries_from i (w ∷ ws))
-entries_cases P i w ws without with_it = step (int_eq w (pos 0)) refl
-  where
-    step : (b : Bool) → int_eq w (pos 0) ≡ b → P (elim b [ true ↦ entries_from (suc i) ws | false ↦ (i, w) ∷ entries_from (suc i) ws ])
-    step true e = without ((Decides-int_eq w (pos 0)).0 e)
-    step false e = with_it
-
--- the places are from the first one on
-entries_above : (i : ℕ) (ws : List ℤ) → All (λ (e : ℕ × ℤ). i ≤ e.0) (entries_from i ws)
-entries_above i [] = All-nil (λ (e : ℕ × ℤ). i ≤ e.0)
-entries_above i (w ∷ ws) =
-    let rest = All-weaker (λ (e : ℕ × ℤ). suc i ≤ e.0) (λ (e : ℕ × ℤ). i ≤ e.0) (λ e h. omega arith) (entries_from (suc i) ws) (entries_above (suc i) ws) in
-    entries_cases (λ on. All (λ (e : ℕ × ℤ). i ≤ e.0) on) i w ws (λ z. rest) (All-cons (λ (e : ℕ × ℤ). i ≤ e.0) (i, w) (entries_from (suc i) ws) (omega arith) rest)
-
--- and below the place past the last one
-entries_below : (n i : ℕ) (ws : List ℤ) → i + length ws ≤ n → All (λ (e : ℕ × ℤ). e.0 < n) (entries_from i ws)
-entries_below n i [] l = All-nil (λ (e : ℕ × ℤ). e.0 < n)
-entries_below n i (w ∷ ws) l =
-    let rest = entries_below n (suc i) ws (omega arith) in
-    entries_cases (λ on. All (λ (e : ℕ × ℤ). e.0 < n) on) i w ws (λ z. rest) (All-cons (λ (e : ℕ × ℤ). e.0 < n) (i, w) (entries_from (suc i) ws) (omega arith) rest)
-
--- they rise
-entries_rise : (i : ℕ) (ws : List ℤ) → AllPairs (λ a b. a < b) (map (λ (e : ℕ × ℤ). e.0) (entries_from i ws))
-entries_rise i [] = λ j k d p q. absurd (omega arith)
-entries_rise i (w ∷ ws) =
-    let rest = entries_rise (suc i) ws in
-    entries_cases (λ on. AllPairs (λ a b. a < b) (map (λ (e : ℕ × ℤ). e.0) on)) i w ws (λ z. rest) (AllPairs-cons (λ a b. a < b) i (map (λ (e : ℕ × ℤ). e.0) (entries_from (suc i) ws)) (All-map (λ b. i < b) (λ (e : ℕ × ℤ). e.0) (entries_from (suc i) ws) (entries_above (suc i) ws)) rest)
-
--- the multipliers are not negative where the weights are not
-entries_nonneg : (i : ℕ) (ws : List ℤ) → AreNonNegative ws → All (λ (e : ℕ × ℤ). pos 0 ≤ℤ e.1) (entries_from i ws)
-entries_nonneg i [] h = All-nil (λ (e : ℕ × ℤ). pos 0 ≤ℤ e.1)
-entries_nonneg i (w ∷ ws) h =
-    let rest = entries_nonneg (suc i) ws (All-tail (λ x. pos 0 ≤ℤ x) w ws h) in
-    entries_cases (λ on. All (λ (e : ℕ × ℤ). pos 0 ≤ℤ e.1) on) i w ws (λ z. rest) (All-cons (λ (e : ℕ × ℤ). pos 0 ≤ℤ e.1) (i, w) (entries_from (suc i) ws) (All-head (λ x. pos 0 ≤ℤ x) w ws h) rest)
-
 -- weights that are not negative give entries
-pub entries_of_weights : (p : ProblemData) (w : List ℤ) → length w ≡ p.vars + length p.rows → AreNonNegative w → AreRowMultipliers (length p.rows) (row_entries p.vars w)
-entries_of_weights p w l h = record {
-  positions_rise = λ k below. entries_rise 0 (drop p.vars w) k (k + 1) 0 (omega arith) below;
-  positions_below = entries_below (length p.rows) 0 (drop p.vars w) (omega (arith, length-drop p.vars w));
-  nonneg = entries_nonneg 0 (drop p.vars w) (All-drop (λ x. pos 0 ≤ℤ x) p.vars w h);
-}
+pub entries_of_weights : (p : ProblemData) (w : List ℤ) → length w ≡ p.vars + length p.rows → AreNonNegative w
+    → AreRowMultipliers (length p.rows) (row_entries p.vars w)
+entries_of_weights p w l h =
+    AreRowMultipliers-from (length p.rows) (drop p.vars w) (omega (arith, length-drop p.vars w)) (All-drop (λ x. pos 0 ≤ℤ x) p.vars w h)
 
 -- ---- sums
-
--- entries and weights give the same sums of numbers of the rows
-entries_sum : (f : Row → ℤ) (rows : List Row) (i : ℕ) (ws : List ℤ) (rest : List Row) → length ws ≡ length rest → ((j : ℕ) → row_at rows (i + j) ≡ row_at rest j) → dot (multipliers (entries_from i ws)) (map f (rows_on rows (entries_from i ws))) ≡ dot ws (map f rest)
-entries_sum f rows i [] [] l h = refl
-entries_sum f rows i [] (r ∷ rest) l h = absurd (omega arith)
-entries_sum f rows i (w ∷ ws) [] l h = absurd (omega arith)
-entries_sum f rows i (w ∷ ws) (r ∷ rest) l h =
-    let here : row_at rows i ≡ r = subst (λ j. row_at rows j ≡ r) (omega arith) (h 0) in
-    let ih = entries_sum f rows (suc i) ws rest (omega arith) (λ j. subst (λ k. row_at rows k ≡ row_at rest j) (omega arith) (h (suc j))) in
-    entries_cases (λ on. dot (multipliers on) (map f (rows_on rows on)) ≡ dot (w ∷ ws) (map f (r ∷ rest))) i w ws (λ z. let e : w *ℤ f r ≡ pos 0 = ap (λ a. a *ℤ f r) z ∙ zero-*ℤ (f r) in omega (arith, lin)) (ap₂ (λ a b. w *ℤ a +ℤ b) (ap f here) ih)
 
 -- the weights' product with the quantities, apart for the variables and the rows
 product_apart : (p : ProblemData) (w x : List ℤ) (n : ℤ) → length x ≡ p.vars → dot w (quantities p x n) ≡ dot (take p.vars w) x +ℤ dot (drop p.vars w) (map (surplus x n) p.rows)
@@ -105,7 +55,7 @@ bound_of_weights p w d b l h =
     let zeros : List ℤ = replicate p.vars (pos 0) in
     let long : length zeros ≡ p.vars = length-replicate p.vars (pos 0) in
     let ws : List ℤ = drop p.vars w in
-    let sum : (combination p (row_entries p.vars w)).bound ≡ dot ws (map (λ (r : Row). r.bound) p.rows) = entries_sum (λ (r : Row). r.bound) p.rows 0 ws p.rows (omega (arith, length-drop p.vars w)) (λ j. ap (row_at p.rows) (omega arith)) in
+    let sum : (combination p (row_entries p.vars w)).bound ≡ dot ws (map (λ (r : Row). r.bound) p.rows) = entries-bound p ws (omega (arith, length-drop p.vars w)) in
     let bounds : ℤ = dot ws (map (λ (r : Row). r.bound) p.rows) in
     let here : pos 0 +ℤ neg_ℤ bounds ≡ d *ℤ pos 0 -ℤ b *ℤ pos 1 = sym (ap₂ (λ a c. a +ℤ c) (dot-zeros (take p.vars w) p.vars) (surpluses_at_zeros p.vars ws p.rows)) ∙ sym (product_apart p w zeros (pos 1) long) ∙ h zeros (pos 1) long ∙ ap (λ a. d *ℤ a -ℤ b *ℤ pos 1) (dot-zeros p.cost p.vars) in
     sum ∙ combine3 (λ s d b. s ≗ b ⇐ con (negsuc 0) ✶ (con (pos 0) ⊕ neg s ≗ d ⊗ con (pos 0) ⊖ b ⊗ con (pos 1)) ∷ []) refl bounds d b here
@@ -119,7 +69,7 @@ coefs_of_weights p ok w d b l nonneg h =
     let unit : List ℤ = unit_vector p.vars j in
     let long : length unit ≡ p.vars = length-unit_vector p.vars j in
     let numbers : List ℤ = map (λ (r : Row). get_or r.coefs j (pos 0)) p.rows in
-    let sum : get_or (combination p on).coefs j (pos 0) ≡ dot ws numbers = get_or-combination p on j ∙ ap (dot (multipliers on)) (column_of-map j (rows_on p.rows on)) ∙ entries_sum (λ (r : Row). get_or r.coefs j (pos 0)) p.rows 0 ws p.rows (omega (arith, length-drop p.vars w)) (λ k. ap (row_at p.rows) (omega arith)) in
+    let sum : get_or (combination p on).coefs j (pos 0) ≡ dot ws numbers = entries-coef p ws j (omega (arith, length-drop p.vars w)) in
     let first : ℤ = get_or (take p.vars w) j (pos 0) in
     let at_least : pos 0 ≤ℤ first = All-get_or (λ x. pos 0 ≤ℤ x) (take p.vars w) j (pos 0) (omega (arith, length-take p.vars w)) (All-take (λ x. pos 0 ≤ℤ x) p.vars w nonneg) in
     let here : first +ℤ dot ws numbers ≡ d *ℤ get_or p.cost j (pos 0) -ℤ b *ℤ pos 0 = sym (ap₂ (λ a c. a +ℤ c) (dot-unit_vector (take p.vars w) p.vars j below) (surpluses_at_unit p.vars j ws p.rows below)) ∙ sym (product_apart p w unit (pos 0) long) ∙ h unit (pos 0) long ∙ ap (λ a. d *ℤ a -ℤ b *ℤ pos 0) (dot-unit_vector p.cost p.vars j below) in

@@ -6,7 +6,8 @@ use Rattle.std.proofs.Common.{◌≡◌, true, false, ℕ, suc, ◌+◌, ◌-◌
 use Rattle.integers.specs.Vector.{scale}
 use Rattle.integers.proofs.Laws.{minus_one-*ℤ}
 use Rattle.integers.proofs.Zeros.{opposite_zeros}
-use Rattle.lex_simplex.specs.Answer.{entries_from, spread, empty_weights}
+use Rattle.frac128.specs.Entries.{entries_from}
+use Rattle.lex_simplex.specs.Answer.{spread, empty_weights}
 use Rattle.lex_simplex.specs.Cells.{AreCells, row_in, tableau_in}
 use Rattle.lex_simplex.specs.Tableau.{TableRow, Tableau, row_of}
 use Rattle.lex_simplex.proofs.CellReading.{row_of-cells, length-cells}

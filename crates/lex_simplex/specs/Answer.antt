@@ -1,7 +1,7 @@
 -- What is read from the last tableau of a run.
-use Rattle.std.specs.Prelude.{◌≡◌, ℕ, All, suc, true, false, List, [], ◌∷◌, set, drop, length, replicate, ℤ, pos, negsuc}
-use Rattle.std.specs.Ordering.{int_eq}
+use Rattle.std.specs.Prelude.{◌≡◌, ℕ, All, List, [], ◌∷◌, set, drop, length, replicate, ℤ, pos, negsuc}
 use Rattle.frac128.specs.Problem.{ProblemData, IsLeast, IsInfeasible, IsSpanCertificate, IsFarkasCertificate, cost_at}
+use Rattle.frac128.specs.Entries.{entries_from}
 use Rattle.frac128.specs.Frac.{IsReduced}
 use Rattle.lex_simplex.specs.declared.end.End.{End}
 use Rattle.lex_simplex.specs.declared.end.End.TheVariants.{Optimal, Empty}
@@ -40,11 +40,6 @@ abbrev pub spread : List ℕ → List ℤ → List ℤ → List ℤ
 spread [] ys weights = weights
 spread (c ∷ cs) [] weights = weights
 spread (c ∷ cs) (y ∷ ys) weights = spread cs ys (set weights c y)
-
--- the weights other than 0, each with its place, counted from i
-abbrev pub entries_from : ℕ → List ℤ → List (ℕ × ℤ)
-entries_from i [] = []
-entries_from i (w ∷ ws) = elim (int_eq w (pos 0)) [ true ↦ entries_from (suc i) ws | false ↦ (i, w) ∷ entries_from (suc i) ws ]
 
 -- the weights of the problem's rows, which stand after those of the variables
 abbrev pub row_entries : ℕ → List ℤ → List (ℕ × ℤ)

@@ -1,5 +1,5 @@
 use Rattle.std.proofs.Common.{◌≡◌, ◌++◌, ◌∷◌, [], true, false, int_eq, pos, drop, take, ◌-◌, length, ap, rules, List, ℤ}
-use Rattle.lex_simplex.specs.Answer.{entries_from}
+use Rattle.frac128.specs.Entries.{entries_from}
 use Rattle.lex_simplex.proofs.WeightReading.{entries_put, entries_skip}
 use Rattle.lex_simplex.proofs.reading.entries.Goals as goal
 use Rattle.lex_simplex.proofs.reading.entries.Goals.{then-ne+in_ok-push, else-ne}

@@ -1,5 +1,5 @@
 use Rattle.std.proofs.Common.{◌≡◌, ◌++◌, drop}
-use Rattle.lex_simplex.specs.Answer.{entries_from}
+use Rattle.frac128.specs.Entries.{entries_from}
 use Rattle.lex_simplex.proofs.reading.entries.Given as goal
 
 abbrev pub invariant-loop-position : goal.invariant-loop-position
