@@ -31,7 +31,7 @@ every-rows m =
     every-append Among _ _ (every-append Among _ _ (every-append Among _ _ lower zero) cross) order
 
 -- so the row that is named first is one
-pub IsFitAmong-from_fit : (m : Judgements) (w : List ℤ) (N : ℕ) (fit : Fit) → IsFit m w N fit → IsFitAmong m.size fit
-IsFitAmong-from_fit m w N Meets h = tt
-IsFitAmong-from_fit m w N (Fails tag) h =
+pub IsFitAmong-from_fit : (m : Judgements) (w : List ℤ) (n : ℤ) (fit : Fit) → IsFit m w n fit → IsFitAmong m.size fit
+IsFitAmong-from_fit m w n Meets h = tt
+IsFitAmong-from_fit m w n (Fails tag) h =
     (every-append_right (IsTagAmong m.size) h.before (tag ∷ h.after) (subst (AllByRecursion (IsTagAmong m.size)) h.stands (every-rows m))).0

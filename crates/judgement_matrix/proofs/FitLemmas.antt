@@ -1,11 +1,12 @@
 -- That a scale meets a matrix is that all rows hold, and what is to be answered is one thing.
-use Rattle.std.proofs.Common.{◌≡◌, ℕ, zero, suc, ◌+◌, ◌-◌, ◌<◌, ◌≤◌, ℤ, pos, ◌≤ℤ◌, Bool, true, false, List, ◌++◌, Option, Some, None, filter, find, ◌↔◌, add-zero, refl, sym, ap, ◌∙◌, subst, arith}
+use Rattle.std.proofs.Common.{◌≡◌, ℕ, zero, suc, ◌+◌, ◌-◌, ◌<◌, ◌≤◌, ℤ, pos, ◌≤ℤ◌, ◌*ℤ◌, Bool, true, false, List, ◌++◌, Option, Some, None, filter, find, ◌↔◌, add-zero, refl, sym, ap, ◌∙◌, subst, arith}
 use Rattle.std.specs.Prelude.{int_lt, nat_le, nat_lt, ◌==◌}
 use Rattle.std.specs.List.{AllByRecursion, range_with_len}
 use Rattle.std.proofs.lemmas.Int.{ints}
 use Rattle.std.proofs.lemmas.Bool.Decides.{nat_tests}
+use Rattle.integers.proofs.Order.{le_of_lt}
 use Rattle.judgement_matrix.specs.Matrix.{Judgements, IsPair, pairs, range_at}
-use Rattle.judgement_matrix.specs.Scale.{difference, IsMetBy}
+use Rattle.judgement_matrix.specs.Scale.{difference, IsScale, IsMetInUnit, IsMetBy}
 use Rattle.judgement_matrix.specs.Rows.{lower_rows, zero_rows, cross_rows, order_rows, rows, RowHolds, IsFit}
 use Rattle.judgement_matrix.specs.Walk.{row_fails, cross_rows_under}
 use Rattle.judgement_matrix.specs.declared.tag.Tag.{Tag}
@@ -14,6 +15,10 @@ use Rattle.judgement_matrix.specs.declared.tag.Fit.{Fit}
 use Rattle.judgement_matrix.specs.declared.tag.Fit.TheVariants.{Meets, Fails}
 use Rattle.judgement_matrix.proofs.EveryLemmas.{every-append, every-append_left, every-append_right, every-map, every_from_map, every-filter, every_from_filter, every-flat_map, every_from_flat_map, every-range, every_in_range, every-pairs, every_at_pair, every_weaker}
 use Rattle.judgement_matrix.proofs.FindLemmas.{find_none, find_from_none, find_first, find_from_first}
+
+-- a bound of at least 0, times a category
+at_least_zero : (n : ℤ) (lo : ℕ) → pos 0 ≤ℤ n → pos 0 ≤ℤ (n *ℤ pos lo)
+at_least_zero n lo h = grind (arith, ints)
 
 -- a test of order and the order
 fails_order : (a b : ℤ) → int_lt a b ≡ true → ¬ (b ≤ℤ a)
@@ -28,31 +33,31 @@ test_order : (a b : ℤ) → b ≤ℤ a → int_lt a b ≡ false
 test_order a b h = grind (arith, ints)
 
 -- the test of a row says whether the row holds
-pub row_fails-true : (m : Judgements) (w : List ℤ) (N : ℕ) (tag : Tag) → row_fails m w N tag ≡ true → ¬ RowHolds m w N tag
-row_fails-true m w N (Lower p q) h = fails_order _ _ h
-row_fails-true m w N (Zero p q) h = fails_order _ _ h
-row_fails-true m w N (Cross p q x y) h = fails_order _ _ h
-row_fails-true m w N (Order p) h = fails_order _ _ h
+pub row_fails-true : (m : Judgements) (w : List ℤ) (n : ℤ) (tag : Tag) → row_fails m w n tag ≡ true → ¬ RowHolds m w n tag
+row_fails-true m w n (Lower p q) h = fails_order _ _ h
+row_fails-true m w n (Zero p q) h = fails_order _ _ h
+row_fails-true m w n (Cross p q x y) h = fails_order _ _ h
+row_fails-true m w n (Order p) h = fails_order _ _ h
 
 -- a row that passes holds
-pub row_fails-false : (m : Judgements) (w : List ℤ) (N : ℕ) (tag : Tag) → row_fails m w N tag ≡ false → RowHolds m w N tag
-row_fails-false m w N (Lower p q) h = holds_order _ _ h
-row_fails-false m w N (Zero p q) h = holds_order _ _ h
-row_fails-false m w N (Cross p q x y) h = holds_order _ _ h
-row_fails-false m w N (Order p) h = holds_order _ _ h
+pub row_fails-false : (m : Judgements) (w : List ℤ) (n : ℤ) (tag : Tag) → row_fails m w n tag ≡ false → RowHolds m w n tag
+row_fails-false m w n (Lower p q) h = holds_order _ _ h
+row_fails-false m w n (Zero p q) h = holds_order _ _ h
+row_fails-false m w n (Cross p q x y) h = holds_order _ _ h
+row_fails-false m w n (Order p) h = holds_order _ _ h
 
 -- a row that holds passes
-pub row_fails_not : (m : Judgements) (w : List ℤ) (N : ℕ) (tag : Tag) → RowHolds m w N tag → row_fails m w N tag ≡ false
-row_fails_not m w N (Lower p q) h = test_order _ _ h
-row_fails_not m w N (Zero p q) h = test_order _ _ h
-row_fails_not m w N (Cross p q x y) h = test_order _ _ h
-row_fails_not m w N (Order p) h = test_order _ _ h
+pub row_fails_not : (m : Judgements) (w : List ℤ) (n : ℤ) (tag : Tag) → RowHolds m w n tag → row_fails m w n tag ≡ false
+row_fails_not m w n (Lower p q) h = test_order _ _ h
+row_fails_not m w n (Zero p q) h = test_order _ _ h
+row_fails_not m w n (Cross p q x y) h = test_order _ _ h
+row_fails_not m w n (Order p) h = test_order _ _ h
 
 -- a row that doesn't hold fails
-pub row_fails_is : (m : Judgements) (w : List ℤ) (N : ℕ) (tag : Tag) → ¬ RowHolds m w N tag → row_fails m w N tag ≡ true
-row_fails_is m w N tag h =
-    let G : Bool → Type 0 = λ b. row_fails m w N tag ≡ b → row_fails m w N tag ≡ true in
-    let by_test : G (row_fails m w N tag) = elim (row_fails m w N tag) as G [ true ↦ λ e. e | false ↦ λ e. absurd (h (row_fails-false m w N tag e)) ] in
+pub row_fails_is : (m : Judgements) (w : List ℤ) (n : ℤ) (tag : Tag) → ¬ RowHolds m w n tag → row_fails m w n tag ≡ true
+row_fails_is m w n tag h =
+    let G : Bool → Type 0 = λ b. row_fails m w n tag ≡ b → row_fails m w n tag ≡ true in
+    let by_test : G (row_fails m w n tag) = elim (row_fails m w n tag) as G [ true ↦ λ e. e | false ↦ λ e. absurd (h (row_fails-false m w n tag e)) ] in
     by_test refl
 
 -- the test of a least category
@@ -95,10 +100,10 @@ falls w n h p q in_n =
     rw e at (falls_along w n h p (q - (p + 1)) (omega arith) (omega arith))
 
 -- each kind of row, and what it says of the pairs
-module _ (m : Judgements) (w : List ℤ) (N : ℕ) where
+module _ (m : Judgements) (w : List ℤ) (n : ℤ) where
   -- the row holds
   abbrev Holds : Tag → Type 0
-  Holds = RowHolds m w N
+  Holds = RowHolds m w n
 
   -- what the lower rows say
   lower_from : AllByRecursion Holds (lower_rows m) → (p q : ℕ) → IsPair m.size p q → nat_le 1 (range_at m p q).lo ≡ true → Holds (Lower p q)
@@ -176,7 +181,7 @@ module _ (m : Judgements) (w : List ℤ) (N : ℕ) where
       by_test refl
 
   -- where all rows hold the judgements are met
-  pub met_from_rows : AllByRecursion Holds (rows m) → IsMetBy m w N
+  pub met_from_rows : AllByRecursion Holds (rows m) → IsMetInUnit m n w
   met_from_rows h =
       let front = every-append_left Holds (lower_rows m ++ zero_rows m ++ cross_rows m) (order_rows m) h in
       let order = order_from (every-append_right Holds (lower_rows m ++ zero_rows m ++ cross_rows m) (order_rows m) h) in
@@ -191,18 +196,21 @@ module _ (m : Judgements) (w : List ℤ) (N : ℕ) where
       }
 
   -- where the judgements are met all rows hold
-  pub rows_from_met : IsMetBy m w N → AllByRecursion Holds (rows m)
-  rows_from_met h =
+  pub rows_from_met : pos 0 ≤ℤ n → IsMetInUnit m n w → AllByRecursion Holds (rows m)
+  rows_from_met nonneg h =
       let lower = lower_every h.lower in
       let zeros = zero_every (λ p q in_n e. h.zero p q in_n (zero_is (range_at m p q).hi e)) in
       let cross = cross_every (λ p q left. under_every p q (λ x y right e. h.cross p q x y left right (less_is (range_at m x y).hi (range_at m p q).lo e))) in
-      let order = order_every (λ p low high. let bound = h.lower p (p + 1) (low, omega arith, omega arith) in omega (arith, ints, bound)) in
+      let order = order_every (λ p low high.
+      let bound = h.lower p (p + 1) (low, omega arith, omega arith) in
+      let above : pos 0 ≤ℤ (n *ℤ pos (range_at m p (p + 1)).lo) = at_least_zero n (range_at m p (p + 1)).lo nonneg in
+      omega (arith, ints, bound, above)) in
       every-append Holds (lower_rows m ++ zero_rows m ++ cross_rows m) (order_rows m)
       (every-append Holds (lower_rows m ++ zero_rows m) (cross_rows m) (every-append Holds (lower_rows m) (zero_rows m) lower zeros) cross) order
 
-  -- the scale meets the judgements exactly where all rows hold
-  pub met_iff_rows : IsMetBy m w N ↔ AllByRecursion Holds (rows m)
-  met_iff_rows = (rows_from_met, met_from_rows)
+  -- the judgements are met exactly where all rows hold
+  pub met_iff_rows : pos 0 ≤ℤ n → IsMetInUnit m n w ↔ AllByRecursion Holds (rows m)
+  met_iff_rows nonneg = (rows_from_met nonneg, met_from_rows)
 
   -- the answer by the first row that fails
   abbrev pub fit_of : Option Tag → Fit
@@ -210,37 +218,38 @@ module _ (m : Judgements) (w : List ℤ) (N : ℕ) where
   fit_of (Some tag) = Fails tag
 
   -- what the first row that fails, if any, answers
-  pub IsFit-find : (r : Option Tag) → r ≡ find (row_fails m w N) (rows m) → IsFit m w N (fit_of r)
-  IsFit-find None e =
-      met_from_rows (every_weaker (λ tag. row_fails m w N tag ≡ false) Holds (λ tag k. row_fails-false m w N tag k) (rows m) (find_none (row_fails m w N) (rows m) (sym e)))
-  IsFit-find (Some tag) e =
-      let f = find_first (row_fails m w N) (rows m) tag (sym e) in
+  pub IsFit-find : IsScale m w n → (r : Option Tag) → r ≡ find (row_fails m w n) (rows m) → IsFit m w n (fit_of r)
+  IsFit-find scale None e =
+      let hold = every_weaker (λ tag. row_fails m w n tag ≡ false) Holds (λ tag k. row_fails-false m w n tag k) (rows m) (find_none (row_fails m w n) (rows m) (sym e)) in
+      record { scale = scale; meets = met_from_rows hold }
+  IsFit-find scale (Some tag) e =
+      let f = find_first (row_fails m w n) (rows m) tag (sym e) in
       record {
         before = f.before;
         after = f.after;
         stands = f.stands;
-        hold = every_weaker (λ other. row_fails m w N other ≡ false) Holds (λ other k. row_fails-false m w N other k) f.before f.fail;
-        fails = row_fails-true m w N tag f.passes;
+        hold = every_weaker (λ other. row_fails m w n other ≡ false) Holds (λ other k. row_fails-false m w n other k) f.before f.fail;
+        fails = row_fails-true m w n tag f.passes;
       }
 
   -- an answer is that of the first row that fails
-  pub fit_is : (fit : Fit) → IsFit m w N fit → fit ≡ fit_of (find (row_fails m w N) (rows m))
+  pub fit_is : (fit : Fit) → IsFit m w n fit → fit ≡ fit_of (find (row_fails m w n) (rows m))
   fit_is Meets h =
-      let none = find_from_none (row_fails m w N) (rows m) (every_weaker Holds (λ tag. row_fails m w N tag ≡ false) (λ tag k. row_fails_not m w N tag k) (rows m) (rows_from_met h)) in
+      let none = find_from_none (row_fails m w n) (rows m) (every_weaker Holds (λ tag. row_fails m w n tag ≡ false) (λ tag k. row_fails_not m w n tag k) (rows m) (rows_from_met (le_of_lt (pos 0) n h.scale.den_pos) h.meets)) in
       ap fit_of (sym none)
   fit_is (Fails tag) h =
-      let fail = every_weaker Holds (λ other. row_fails m w N other ≡ false) (λ other k. row_fails_not m w N other k) h.before h.hold in
-      let found = find_from_first (row_fails m w N) h.before tag h.after fail (row_fails_is m w N tag h.fails) in
-      ap fit_of (sym (ap (find (row_fails m w N)) h.stands ∙ found))
+      let fail = every_weaker Holds (λ other. row_fails m w n other ≡ false) (λ other k. row_fails_not m w n other k) h.before h.hold in
+      let found = find_from_first (row_fails m w n) h.before tag h.after fail (row_fails_is m w n tag h.fails) in
+      ap fit_of (sym (ap (find (row_fails m w n)) h.stands ∙ found))
 
   -- there is at most one answer
-  pub IsFit-unique : (a b : Fit) → IsFit m w N a → IsFit m w N b → a ≡ b
+  pub IsFit-unique : (a b : Fit) → IsFit m w n a → IsFit m w n b → a ≡ b
   IsFit-unique a b h k = fit_is a h ∙ sym (fit_is b k)
 
   -- the answer is that it meets exactly where it does
-  pub IsFit-Meets : (fit : Fit) → IsFit m w N fit → (fit ≡ Meets) ↔ IsMetBy m w N
-  IsFit-Meets fit h = (λ e. subst (IsFit m w N) e h, λ k. IsFit-unique fit Meets h k)
+  pub IsFit-Meets : (fit : Fit) → IsFit m w n fit → (fit ≡ Meets) ↔ IsMetBy m w n
+  IsFit-Meets fit h = (λ e. subst (IsFit m w n) e h, λ k. IsFit-unique fit Meets h k)
 
   -- there is an answer for every scale
-  pub fit_exists : (fit : Fit) × IsFit m w N fit
-  fit_exists = (fit_of (find (row_fails m w N) (rows m)), IsFit-find (find (row_fails m w N) (rows m)) refl)
+  pub fit_exists : IsScale m w n → (fit : Fit) × IsFit m w n fit
+  fit_exists scale = (fit_of (find (row_fails m w n) (rows m)), IsFit-find scale (find (row_fails m w n) (rows m)) refl)

@@ -1,9 +1,10 @@
 -- What a judgement changes.
-use Rattle.std.proofs.Common.{Bool, ◌≡◌, ℕ, ◌≤◌, refl, ◌<◌, true, false, length, get_or, sym, ap, ◌∙◌}
+use Rattle.std.proofs.Common.{◌≡◌, ℕ, ◌≤◌, refl, ◌<◌, true, false, length, get_or, sym, ap, ◌∙◌, arith}
 use Rattle.std.proofs.lemmas.List.{get_or-set_same, get_or-set_other, get_or-replicate, length-replicate, length-set}
 use Rattle.std.proofs.lemmas.List.Elements.{All-replicate, All-set}
-use Rattle.judgement_matrix.specs.Range.{Bounds, full}
-use Rattle.judgement_matrix.specs.Matrix.{Judgements, IsMatrix, IsPair, pairs, place, cell_at, unjudged, judged}
+use Rattle.judgement_matrix.specs.Range.{Bounds, IsRange, full}
+use Rattle.judgement_matrix.specs.Matrix.{Judgements, IsCell, IsMatrix, IsPair, pairs, place, cell_at, unjudged, judged}
+use Rattle.judgement_matrix.specs.declared.matrix.TheConstants.{LIMIT}
 use Rattle.judgement_matrix.proofs.PlaceLemmas.{get_or-place, place-below}
 
 -- two pairs at one place are one pair
@@ -28,20 +29,24 @@ cell_at-judged_other m p q x y range in_n at_n apart =
 pub cell_at-unjudged : (n p q : ℕ) → IsPair n p q → cell_at (unjudged n) p q ≡ (full, false)
 cell_at-unjudged n p q in_n = get_or-replicate (length (pairs n)) (place n p q) (full, false) (full, false) (place-below n p q in_n)
 
+-- all categories are a range
+IsRange-full : IsRange full
+IsRange-full = (omega arith, omega arith)
+
 -- a new matrix keeps what a matrix keeps
-pub IsMatrix-unjudged : (n : ℕ) → 1 ≤ n → n ≤ 24 → IsMatrix (unjudged n)
+pub IsMatrix-unjudged : (n : ℕ) → 1 ≤ n → n ≤ LIMIT → IsMatrix (unjudged n)
 IsMatrix-unjudged n least most = record {
   least = least;
   most = most;
   each = length-replicate (length (pairs n)) (full, false);
-  unjudged_full = All-replicate (λ (cell : Bounds × Bool). cell.1 ≡ false → cell.0 ≡ full) (length (pairs n)) (full, false) (λ _. refl);
+  cells_are = All-replicate IsCell (length (pairs n)) (full, false) (IsRange-full, λ _. refl);
 }
 
 -- and so does one more judgement
-pub IsMatrix-judged : (m : Judgements) (p q : ℕ) (range : Bounds) → IsMatrix m → IsMatrix (judged m p q range)
-IsMatrix-judged m p q range h = record {
+pub IsMatrix-judged : (m : Judgements) (p q : ℕ) (range : Bounds) → IsRange range → IsMatrix m → IsMatrix (judged m p q range)
+IsMatrix-judged m p q range is h = record {
   least = h.least;
   most = h.most;
   each = length-set m.cells (place m.size p q) (range, true) ∙ h.each;
-  unjudged_full = All-set (λ (cell : Bounds × Bool). cell.1 ≡ false → cell.0 ≡ full) m.cells (place m.size p q) (range, true) (λ e. cc) h.unjudged_full;
+  cells_are = All-set IsCell m.cells (place m.size p q) (range, true) (is, λ e. cc) h.cells_are;
 }

@@ -6,3 +6,4 @@ pub mod FitLemmas
 pub mod TestLemmas
 pub mod JudgedLemmas
 pub mod AmongLemmas
+pub mod Examples

@@ -1,7 +1,8 @@
 -- A matrix of judgements: a size n and, for each pair (p, q) with 1 ≤ p < q ≤ n in pair order, a range and whether it was judged.
 use Rattle.std.specs.Prelude.{◌≡◌, All, ℕ, zero, suc, ◌+◌, ◌-◌, ◌<◌, ◌≤◌, Bool, true, false, List, map, length, replicate, slice_index_or, slice_set}
 use Rattle.std.specs.List.{flat_map, range_with_len}
-use Rattle.judgement_matrix.specs.Range.{Bounds, full}
+use Rattle.judgement_matrix.specs.Range.{Bounds, IsRange, full}
+use Rattle.judgement_matrix.specs.declared.matrix.TheConstants.{LIMIT}
 
 -- the judgements as the contracts see them, the cells in pair order
 pub record Judgements : Type 0 where
@@ -16,12 +17,16 @@ IsPair n p q = (1 ≤ p) × (p < q) × (q ≤ n)
 abbrev pub pairs : ℕ → List (ℕ × ℕ)
 pairs n = flat_map (λ p. map (λ q. (p, q)) (range_with_len (p + 1) (n - p))) (range_with_len 1 (n - 1))
 
--- what a matrix keeps: an unjudged pair has the full range
+-- a cell has a range, which is the full one where the pair is unjudged
+abbrev pub IsCell : Bounds × Bool → Type 0
+IsCell cell = IsRange cell.0 × (cell.1 ≡ false → cell.0 ≡ full)
+
+-- what a matrix keeps: as many elements as it may have, and a cell for each pair
 pub record IsMatrix (m : Judgements) : Type 0 where
   pub least : 1 ≤ m.size
-  pub most : m.size ≤ 24
+  pub most : m.size ≤ LIMIT
   pub each : length m.cells ≡ length (pairs m.size)
-  pub unjudged_full : All (λ cell. cell.1 ≡ false → cell.0 ≡ full) m.cells
+  pub cells_are : All IsCell m.cells
 
 -- how many pairs have one of the first k elements as their upper one
 abbrev pub pairs_before : ℕ → ℕ → ℕ
@@ -47,3 +52,7 @@ unjudged n = record { size = n; cells = replicate (length (pairs n)) (full, fals
 -- the same judgements but for one pair, which is judged so
 abbrev pub judged : Judgements → ℕ → ℕ → Bounds → Judgements
 judged m p q range = record { size = m.size; cells = slice_set m.cells (place m.size p q) (range, true) }
+
+-- the same judgements but for one pair, which is not judged
+abbrev pub cleared : Judgements → ℕ → ℕ → Judgements
+cleared m p q = record { size = m.size; cells = slice_set m.cells (place m.size p q) (full, false) }

@@ -29,25 +29,25 @@ order_rows m = map (λ p. Order p) (range_with_len 1 (m.size - 1))
 abbrev pub rows : Judgements → List Tag
 rows m = lower_rows m ++ zero_rows m ++ cross_rows m ++ order_rows m
 
--- the scale w over N satisfies the constraint of a row
-abbrev pub RowHolds : Judgements → List ℤ → ℕ → Tag → Type 0
-RowHolds m w N (Lower p q) = (pos N *ℤ pos (range_at m p q).lo) ≤ℤ difference w p q
-RowHolds m w N (Zero p q) = difference w p q ≤ℤ pos 0
-RowHolds m w N (Cross p q x y) = (pos N *ℤ (pos (range_at m p q).lo -ℤ pos (range_at m x y).hi)) ≤ℤ (difference w p q -ℤ difference w x y)
-RowHolds m w N (Order p) = pos 0 ≤ℤ difference w p (p + 1)
+-- the scale w over n satisfies the constraint of a row
+abbrev pub RowHolds : Judgements → List ℤ → ℤ → Tag → Type 0
+RowHolds m w n (Lower p q) = (n *ℤ pos (range_at m p q).lo) ≤ℤ difference w p q
+RowHolds m w n (Zero p q) = difference w p q ≤ℤ pos 0
+RowHolds m w n (Cross p q x y) = (n *ℤ (pos (range_at m p q).lo -ℤ pos (range_at m x y).hi)) ≤ℤ (difference w p q -ℤ difference w x y)
+RowHolds m w n (Order p) = pos 0 ≤ℤ difference w p (p + 1)
 
 -- tag is the first row in row order that the scale fails
-pub record IsFirstFailing (m : Judgements) (w : List ℤ) (N : ℕ) (tag : Tag) : Type 0 where
+pub record IsFirstFailing (m : Judgements) (w : List ℤ) (n : ℤ) (tag : Tag) : Type 0 where
   pub before : List Tag
   pub after : List Tag
   pub stands : rows m ≡ before ++ tag ∷ after
-  pub hold : AllByRecursion (RowHolds m w N) before
-  pub fails : ¬ RowHolds m w N tag
+  pub hold : AllByRecursion (RowHolds m w n) before
+  pub fails : ¬ RowHolds m w n tag
 
 -- what is to be answered for a scale
-abbrev pub IsFit : Judgements → List ℤ → ℕ → Fit → Type 0
-IsFit m w N Meets = IsMetBy m w N
-IsFit m w N (Fails tag) = IsFirstFailing m w N tag
+abbrev pub IsFit : Judgements → List ℤ → ℤ → Fit → Type 0
+IsFit m w n Meets = IsMetBy m w n
+IsFit m w n (Fails tag) = IsFirstFailing m w n tag
 
 -- the positions of a tag are those of n elements
 abbrev pub IsTagAmong : ℕ → Tag → Type 0

@@ -3,6 +3,7 @@ use Rattle.std.specs.Prelude.{ℕ, ◌+◌, ◌-◌, ◌<◌, ◌≤◌, ℤ, po
 use Rattle.std.specs.List.{flat_map, range_with_len, AllByRecursion}
 use Rattle.judgement_matrix.specs.Matrix.{Judgements, IsPair, range_at}
 use Rattle.judgement_matrix.specs.Scale.{difference}
+use Rattle.judgement_matrix.specs.declared.matrix.TheConstants.{LIMIT}
 use Rattle.judgement_matrix.specs.declared.tag.Tag.{Tag}
 use Rattle.judgement_matrix.specs.declared.tag.Tag.TheVariants.{Lower, Zero, Cross, Order}
 
@@ -15,7 +16,7 @@ pairs_from n p q = map (λ b. (p, b)) (range_with_len q (n + 1 - q))
 pub record IsCursor (n p q : ℕ) : Type 0 where
   pub least : 1 ≤ p
   pub above : p < q
-  pub most : n ≤ 24
+  pub most : n ≤ LIMIT
   pub within : q ≤ n + 1
   pub past : n < q → n ≤ p
 
@@ -40,9 +41,9 @@ cross_rows_under m left ps = map (λ right. Cross left.0 left.1 right.0 right.1)
 abbrev pub cross_rows_of : Judgements → List (ℕ × ℕ) → List (ℕ × ℕ) → List Tag
 cross_rows_of m lefts rights = flat_map (λ left. cross_rows_under m left rights) lefts
 
--- the scale w over N fails the constraint of a row
-abbrev pub row_fails : Judgements → List ℤ → ℕ → Tag → Bool
-row_fails m w N (Lower p q) = int_lt (difference w p q) (pos N *ℤ pos (range_at m p q).lo)
-row_fails m w N (Zero p q) = int_lt (pos 0) (difference w p q)
-row_fails m w N (Cross p q x y) = int_lt (difference w p q -ℤ difference w x y) (pos N *ℤ (pos (range_at m p q).lo -ℤ pos (range_at m x y).hi))
-row_fails m w N (Order p) = int_lt (difference w p (p + 1)) (pos 0)
+-- the scale w over n fails the constraint of a row
+abbrev pub row_fails : Judgements → List ℤ → ℤ → Tag → Bool
+row_fails m w n (Lower p q) = int_lt (difference w p q) (n *ℤ pos (range_at m p q).lo)
+row_fails m w n (Zero p q) = int_lt (pos 0) (difference w p q)
+row_fails m w n (Cross p q x y) = int_lt (difference w p q -ℤ difference w x y) (n *ℤ (pos (range_at m p q).lo -ℤ pos (range_at m x y).hi))
+row_fails m w n (Order p) = int_lt (difference w p (p + 1)) (pos 0)

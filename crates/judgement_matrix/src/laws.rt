@@ -1,14 +1,20 @@
 //! What the definitions in the contracts amount to: functions that do nothing, whose contracts are the laws.
 
-ghost use Rattle.std.specs.Prelude.{◌≡◌, ◌-◌, ◌≤◌, ◌↔◌, false, length, slice_get, Some};
+ghost use Rattle.std.specs.Prelude.{◌≡◌, ◌-◌, ◌≤◌, ◌↔◌, false, length, slice_get, Some, List, ℤ, pos, ◌≤ℤ◌};
 ghost use Rattle.std.specs.List.{AllByRecursion};
+ghost use Rattle.judgement_matrix.specs.declared.matrix.TheConstants.{LIMIT};
 ghost use Rattle.judgement_matrix.specs.Range.{full};
 ghost use Rattle.judgement_matrix.specs.Matrix.{IsPair, pairs, pairs_before, place, cell_at, unjudged};
-ghost use Rattle.judgement_matrix.specs.Scale.{IsMetBy};
+ghost use Rattle.judgement_matrix.specs.Scale.{IsMetInUnit};
 ghost use Rattle.judgement_matrix.specs.Rows.{RowHolds, rows, IsFit};
 
 use crate::matrix::Matrix;
 use crate::tag::Fit;
+
+/// States how many elements a matrix may have. It does nothing.
+pub fn most_elements()
+    ensures { LIMIT ≡ 24 }
+{}
 
 /// States that each pair stands at its place in pair order. It does nothing.
 pub fn pair_at_its_place(size: usize, p: usize, q: usize)
@@ -27,15 +33,13 @@ pub fn nothing_judged(size: usize, p: usize, q: usize)
     ensures { cell_at (unjudged size) p q ≡ (full, false) }
 {}
 
-/// States that the constraints hold exactly where all rows do, over any denominator. It does nothing.
-pub fn met_where_rows_hold(matrix: &Matrix, values: &[i64], denominator: u64)
-    ensures { IsMetBy matrix.now values.now denominator
-        ↔ AllByRecursion (RowHolds matrix.now values.now denominator) (rows matrix.now) }
+/// States that the constraints hold exactly where all rows do, in any unit of at least 0. It does nothing.
+pub fn met_where_rows_hold(matrix: &Matrix)
+    ensures { (w : List ℤ) (unit : ℤ) → pos 0 ≤ℤ unit → IsMetInUnit matrix.now unit w
+        ↔ AllByRecursion (RowHolds matrix.now w unit) (rows matrix.now) }
 {}
 
 /// States that a scale has one answer. It does nothing.
-pub fn one_fit(matrix: &Matrix, values: &[i64], denominator: u64, first: Fit, second: Fit)
-    requires first { IsFit matrix.now values.now denominator first }
-    requires second { IsFit matrix.now values.now denominator second }
-    ensures { first ≡ second }
+pub fn one_fit(matrix: &Matrix, first: Fit, second: Fit)
+    ensures { (w : List ℤ) (n : ℤ) → IsFit matrix.now w n first → IsFit matrix.now w n second → first ≡ second }
 {}

@@ -6,10 +6,12 @@ mod matrix;
 mod meets;
 mod pairs;
 mod range;
+mod shift;
 mod tag;
 
 pub use matrix::{LIMIT, Matrix, NoMemory};
 pub use range::Range;
+pub use shift::Shift;
 pub use tag::{Fit, Tag};
 
 #[cfg(test)]

@@ -2,6 +2,7 @@
 ghost use Rattle.std.specs.Prelude.{◌≡◌, ℕ, true, ◌-◌, ◌<◌, ◌≤◌, false, length, IfOk};
 ghost use Rattle.judgement_matrix.specs.Range.{IsRange, full};
 ghost use Rattle.judgement_matrix.specs.Matrix.{IsPair, pairs, pairs_before, place, cell_at, unjudged, judged};
+ghost use Rattle.judgement_matrix.specs.declared.matrix.TheConstants.{LIMIT};
 
 use crate::pairs::Pairs;
 use crate::range::Range;
@@ -32,7 +33,7 @@ impl Model for Matrix {
 // How many pairs `size` elements have.
 fn pair_count(size: usize) -> usize
     requires least { 1 ≤ size }
-    requires most { size ≤ 24 }
+    requires most { size ≤ LIMIT }
     ensures value { result ≡ length (pairs size) }
     ensures before { result ≡ pairs_before size (size - 1) }
     ensures most { result ≤ 276 }
@@ -43,7 +44,7 @@ fn pair_count(size: usize) -> usize
 // The place of a pair in pair order, from 0.
 fn place_of(size: usize, p: usize, q: usize) -> usize
     requires pair { IsPair size p q }
-    requires most { size ≤ 24 }
+    requires most { size ≤ LIMIT }
     ensures value { result ≡ place size p q }
     ensures within { result < length (pairs size) }
 {
@@ -55,7 +56,7 @@ impl Matrix {
     /// A matrix of `n` elements in which nothing is judged.
     pub fn new(alloc: Global, n: usize) -> Result<Matrix, NoMemory>
         requires least { 1 ≤ n }
-        requires most { n ≤ 24 }
+        requires most { n ≤ LIMIT }
         ensures { IfOk result (λ m. m ≡ unjudged n) }
     {
         let cells = vec![in alloc; (Range::full(), false); pair_count(n)]?;
@@ -69,7 +70,7 @@ impl Matrix {
     pub fn size(&self) -> usize
         ensures value { result ≡ self.now.size }
         ensures least { 1 ≤ result }
-        ensures most { result ≤ 24 }
+        ensures most { result ≤ LIMIT }
     {
         usize::from(self.size)
     }

@@ -23,10 +23,10 @@ impl Matrix {
     /// Whether the scale of these whole numbers, in the order of the elements, meets the judgements, and which
     /// constraint it fails first. It takes no memory.
     pub fn meets_whole(&self, values: &[i64]) -> Fit
-        requires scale { IsScale self.now values.now }
+        requires scale { IsScale self.now values.now (pos 1) }
         requires bounded { AllBounded values.now }
-        ensures fit { IsFit self.now values.now 1 result }
-        ensures meets { (result ≡ Fit.Meets) ↔ IsMetBy self.now values.now 1 }
+        ensures fit { IsFit self.now values.now (pos 1) result }
+        ensures meets { (result ≡ Fit.Meets) ↔ IsMetBy self.now values.now (pos 1) }
         ensures among { IsFitAmong self.now.size result }
     {
         match self.first_failing(values) {
@@ -37,9 +37,9 @@ impl Matrix {
 
     // The first row that fails.
     fn first_failing(&self, values: &[i64]) -> Option<Tag>
-        requires scale { IsScale self.now values.now }
+        requires scale { IsScale self.now values.now (pos 1) }
         requires bounded { AllBounded values.now }
-        ensures { result ≡ find (row_fails self.now values.now 1) (rows self.now) }
+        ensures { result ≡ find (row_fails self.now values.now (pos 1)) (rows self.now) }
     {
         if let Some(tag) = self.first_lower(values) {
             return Some(tag);
@@ -55,9 +55,9 @@ impl Matrix {
 
     // The first lower row that fails.
     fn first_lower(&self, values: &[i64]) -> Option<Tag>
-        requires scale { IsScale self.now values.now }
+        requires scale { IsScale self.now values.now (pos 1) }
         requires bounded { AllBounded values.now }
-        ensures { result ≡ find (row_fails self.now values.now 1) (lower_rows self.now) }
+        ensures { result ≡ find (row_fails self.now values.now (pos 1)) (lower_rows self.now) }
     {
         for (p, q) in self.pairs() {
             if self.fails_lower(values, p, q) {
@@ -69,9 +69,9 @@ impl Matrix {
 
     // The first zero row that fails.
     fn first_zero(&self, values: &[i64]) -> Option<Tag>
-        requires scale { IsScale self.now values.now }
+        requires scale { IsScale self.now values.now (pos 1) }
         requires bounded { AllBounded values.now }
-        ensures { result ≡ find (row_fails self.now values.now 1) (zero_rows self.now) }
+        ensures { result ≡ find (row_fails self.now values.now (pos 1)) (zero_rows self.now) }
     {
         for (p, q) in self.pairs() {
             if self.fails_zero(values, p, q) {
@@ -83,9 +83,9 @@ impl Matrix {
 
     // The first cross row that fails.
     fn first_cross(&self, values: &[i64]) -> Option<Tag>
-        requires scale { IsScale self.now values.now }
+        requires scale { IsScale self.now values.now (pos 1) }
         requires bounded { AllBounded values.now }
-        ensures { result ≡ find (row_fails self.now values.now 1) (cross_rows self.now) }
+        ensures { result ≡ find (row_fails self.now values.now (pos 1)) (cross_rows self.now) }
     {
         for (p, q) in self.pairs() {
             if let Some(tag) = self.first_cross_under(values, p, q) {
@@ -98,10 +98,10 @@ impl Matrix {
     // The first cross row of one pair that fails.
     fn first_cross_under(&self, values: &[i64], p: u8, q: u8) -> Option<Tag>
         requires pair { IsPair self.now.size p q }
-        requires scale { IsScale self.now values.now }
+        requires scale { IsScale self.now values.now (pos 1) }
         requires bounded { AllBounded values.now }
         ensures { result
-            ≡ find (row_fails self.now values.now 1) (cross_rows_under self.now (p, q) (pairs self.now.size)) }
+            ≡ find (row_fails self.now values.now (pos 1)) (cross_rows_under self.now (p, q) (pairs self.now.size)) }
     {
         for (x, y) in self.pairs() {
             if self.fails_cross(values, p, q, x, y) {
@@ -113,9 +113,9 @@ impl Matrix {
 
     // The first order row that fails.
     fn first_order(&self, values: &[i64]) -> Option<Tag>
-        requires scale { IsScale self.now values.now }
+        requires scale { IsScale self.now values.now (pos 1) }
         requires bounded { AllBounded values.now }
-        ensures { result ≡ find (row_fails self.now values.now 1) (order_rows self.now) }
+        ensures { result ≡ find (row_fails self.now values.now (pos 1)) (order_rows self.now) }
     {
         let size = self.size() as u8;
         for p in 1..size {
@@ -129,10 +129,10 @@ impl Matrix {
     // Whether the pair was judged different and the scale fails its least category.
     fn fails_lower(&self, values: &[i64], p: u8, q: u8) -> bool
         requires pair { IsPair self.now.size p q }
-        requires scale { IsScale self.now values.now }
+        requires scale { IsScale self.now values.now (pos 1) }
         requires bounded { AllBounded values.now }
         ensures { result
-            ≡ (nat_le 1 (range_at self.now p q).lo && row_fails self.now values.now 1 (Tag.Lower p q)) }
+            ≡ (nat_le 1 (range_at self.now p q).lo && row_fails self.now values.now (pos 1) (Tag.Lower p q)) }
     {
         let (range, _) = self.get(usize::from(p), usize::from(q));
         range.lo >= 1 && difference_of(values, p, q) < i64::from(range.lo)
@@ -141,10 +141,10 @@ impl Matrix {
     // Whether the pair is judged equal and the scale fails it.
     fn fails_zero(&self, values: &[i64], p: u8, q: u8) -> bool
         requires pair { IsPair self.now.size p q }
-        requires scale { IsScale self.now values.now }
+        requires scale { IsScale self.now values.now (pos 1) }
         requires bounded { AllBounded values.now }
         ensures { result
-            ≡ ((range_at self.now p q).hi == 0 && row_fails self.now values.now 1 (Tag.Zero p q)) }
+            ≡ ((range_at self.now p q).hi == 0 && row_fails self.now values.now (pos 1) (Tag.Zero p q)) }
     {
         let (range, _) = self.get(usize::from(p), usize::from(q));
         range.hi == 0 && difference_of(values, p, q) > 0
@@ -154,10 +154,10 @@ impl Matrix {
     fn fails_cross(&self, values: &[i64], p: u8, q: u8, x: u8, y: u8) -> bool
         requires left { IsPair self.now.size p q }
         requires right { IsPair self.now.size x y }
-        requires scale { IsScale self.now values.now }
+        requires scale { IsScale self.now values.now (pos 1) }
         requires bounded { AllBounded values.now }
         ensures { result ≡ (nat_lt (range_at self.now x y).hi (range_at self.now p q).lo
-            && row_fails self.now values.now 1 (Tag.Cross p q x y)) }
+            && row_fails self.now values.now (pos 1) (Tag.Cross p q x y)) }
     {
         let (left, _) = self.get(usize::from(p), usize::from(q));
         let (right, _) = self.get(usize::from(x), usize::from(y));

@@ -2,6 +2,7 @@
 ghost use Rattle.std.specs.Prelude.{◌≡◌, ◌≤◌};
 ghost use Rattle.std.specs.Iterator.{YieldsFirst, item_count};
 ghost use Rattle.judgement_matrix.specs.Matrix.{pairs};
+ghost use Rattle.judgement_matrix.specs.declared.matrix.TheConstants.{LIMIT};
 
 use std::marker::Model;
 
@@ -28,7 +29,7 @@ impl Pairs {
     /// The pairs of `size` elements.
     pub(crate) fn of(size: u8) -> Pairs
         requires least { 1 ≤ size }
-        requires most { size ≤ 24 }
+        requires most { size ≤ LIMIT }
         ensures { result ≡ pairs size }
     {
         Pairs {

@@ -40,7 +40,7 @@ Judges c x y range r next =
 
 -- as many values as elements, the last one 0
 abbrev pub is_scale : CriterionState → List ℤ → Bool
-is_scale c values = (length values == length c.elements) && int_eq (value_at values (length c.elements)) (pos 0)
+is_scale c values = (length values == c.matrix.size) && int_eq (value_at values c.matrix.size) (pos 0)
 
 -- the reply for a scale that meets the judgements, or fails this row first
 abbrev pub fit_reply : CriterionState → Fit → Reply
@@ -59,7 +59,7 @@ Does (Some c) (command.Judge name x y range) r next =
 Does None (command.Fits name values) r next = Refuses 3 None r next
 Does (Some c) (command.Fits name values) r next =
     MatchBool (bytes_eq name c.name && is_scale c values)
-    ((next ≡ Some c) × ((f : Fit) × IsFit c.matrix values 1 f × (r ≡ fit_reply c f)))
+    ((next ≡ Some c) × ((f : Fit) × IsFit c.matrix values (pos 1) f × (r ≡ fit_reply c f)))
     (Refuses 3 (Some c) r next)
 Does state command.Quit r next = Accepts state r next
 

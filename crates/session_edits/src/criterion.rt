@@ -1,5 +1,5 @@
 //! The criterion of a session.
-ghost use Rattle.std.specs.Prelude.{◌≡◌, ◌+◌, ◌<◌, ◌≤◌, true, length, IfOk, IfSome, MatchOption};
+ghost use Rattle.std.specs.Prelude.{◌≡◌, ◌+◌, ◌<◌, ◌≤◌, true, length, pos, IfOk, IfSome, MatchOption};
 ghost use Rattle.std.specs.List.{position};
 ghost use Rattle.std.specs.Str.{bytes_eq};
 ghost use Rattle.judgement_matrix.specs.Matrix.{judged};
@@ -80,7 +80,7 @@ impl Criterion {
         ensures { result ≡ is_scale self.now values.now }
     {
         match values.last() {
-            Some(last) => values.len() == self.elements.as_slice().len() && *last == 0,
+            Some(last) => values.len() == self.matrix.size() && *last == 0,
             None => false,
         }
     }
@@ -89,7 +89,7 @@ impl Criterion {
     pub fn fit(&self, alloc: Global, values: &[i64]) -> Result<Reply, NoMemory>
         requires scale { is_scale self.now values.now ≡ true }
         requires bounded { AllBounded values.now }
-        ensures fit { IfOk result (λ reply. (f : Fit) × IsFit self.now.matrix values.now 1 f × (reply ≡ fit_reply self.now f)) }
+        ensures fit { IfOk result (λ reply. (f : Fit) × IsFit self.now.matrix values.now (pos 1) f × (reply ≡ fit_reply self.now f)) }
         ensures printable { IfOk result IsPrintable }
     {
         match self.matrix.meets_whole(values) {
