@@ -3,6 +3,7 @@
 
 mod decimals;
 mod frac;
+pub mod laws;
 mod list;
 mod number;
 mod order;

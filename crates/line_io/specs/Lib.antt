@@ -5,3 +5,4 @@ pub mod Cursor
 pub mod Memory
 pub mod Never
 pub mod Stock
+pub mod Standard

@@ -1,8 +1,11 @@
 //! A source over a reader and a sink over a writer of std. They tell no content.
-ghost use Rattle.std.specs.Prelude.{◌≡◌, None, Option, List, ℕ};
+ghost use Rattle.std.specs.Prelude.{◌≡◌, ◌<◌, ◌≤◌, None, Option, List, ℕ, length, take, IfOk, OnErr};
+ghost use Rattle.std.specs.Io.KnownBytes.{ReadConsumes, WriteAppends};
+ghost use Rattle.line_io.specs.Outside.{Rose};
 
 use crate::outside::{Failed, Sink, Source};
 use std::io::{Read, Write};
+use std::marker::Model;
 
 /// A source over a reader.
 #[derive(Drop)]
@@ -11,10 +14,18 @@ pub struct StdSource<R> {
     faults: u64,
 }
 
+impl<R> Model for StdSource<R> {
+    ghost use Rattle.line_io.specs.Standard.{Over};
+
+    ghost Value = { Over R };
+
+    ghost view = { λ s. record { beneath = s.reader; faults = s.faults } };
+}
+
 impl<R: Read> StdSource<R> {
     /// A source over this reader, with no fault yet.
     pub fn make(reader: R) -> StdSource<R>
-        ensures { ⟦<StdSource<R> as Source>⟧.faults result ≡ 0 }
+        ensures { result ≡ record { beneath = reader; faults = 0 } }
     {
         StdSource { reader, faults: 0 }
     }
@@ -25,7 +36,13 @@ impl<R: Read> Source for StdSource<R> {
 
     ghost faults = { λ s. s.faults };
 
-    fn take(&mut self, into: &mut [u8]) -> Result<usize, Failed> {
+    fn take(&mut self, into: &mut [u8]) -> Result<usize, Failed>
+        ensures given { IfOk result (λ k. k ≤ length into.old) }
+        ensures reader { ReadConsumes (R.remaining self.old.beneath) (R.remaining self.new.beneath)
+            result into.new }
+        ensures failed { OnErr result (Rose self.old.faults self.new.faults) }
+        ensures count { self.old.faults ≤ self.new.faults }
+    {
         match self.reader.read(into) {
             Ok(count) => Ok(count),
             Err(_) => {
@@ -43,10 +60,18 @@ pub struct StdSink<W> {
     faults: u64,
 }
 
+impl<W> Model for StdSink<W> {
+    ghost use Rattle.line_io.specs.Standard.{Over};
+
+    ghost Value = { Over W };
+
+    ghost view = { λ s. record { beneath = s.writer; faults = s.faults } };
+}
+
 impl<W: Write> StdSink<W> {
     /// A sink over this writer, with no fault yet.
     pub fn make(writer: W) -> StdSink<W>
-        ensures { ⟦<StdSink<W> as Sink>⟧.faults result ≡ 0 }
+        ensures { result ≡ record { beneath = writer; faults = 0 } }
     {
         StdSink { writer, faults: 0 }
     }
@@ -57,7 +82,13 @@ impl<W: Write> Sink for StdSink<W> {
 
     ghost faults = { λ s. s.faults };
 
-    fn put(&mut self, piece: &[u8]) -> Result<usize, Failed> {
+    fn put(&mut self, piece: &[u8]) -> Result<usize, Failed>
+        ensures taken { IfOk result (λ k. (k ≤ length piece.now) × (0 < length piece.now → 0 < k)) }
+        ensures writer { WriteAppends (W.contents self.old.beneath) (W.contents self.new.beneath)
+            result piece.now }
+        ensures failed { OnErr result (Rose self.old.faults self.new.faults) }
+        ensures count { self.old.faults ≤ self.new.faults }
+    {
         match self.writer.write(piece) {
             Ok(count) if count > 0 || piece.is_empty() => Ok(count),
             _ => {

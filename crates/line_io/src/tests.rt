@@ -1,9 +1,13 @@
+ghost use Rattle.std.specs.Prelude.{None, Option, List, ℕ};
+
 use crate::*;
 use std::alloc::{AllocError, Global};
+use std::io;
+use std::io::{ErrorKind, Read, Write};
 use std::test::Fail;
 
-/// Adds what was answered: a line and a bar, a length in brackets for a long line, a number and an exclamation mark for
-/// one that is too long, a point for the end, and a letter for a fault.
+/// Adds what was answered: a line and a bar, a length in brackets for a long line, a number and an
+/// exclamation mark for one that is too long, a point for the end, and its name for a fault.
 fn add_answer(
     alloc: Global,
     out: &mut Vec<u8>,
@@ -139,5 +143,130 @@ fn a_sink_over_std(rt: HostRuntime) -> Result<(), Fail> {
     let mut sink = StdSink::make(&mut written);
     assert!(rt; put_all(&mut sink, b"a\nb").is_ok());
     assert_eq!(rt; written.as_slice(), b"a\nb".as_slice());
+    Ok(())
+}
+
+/// A reader and a writer that serve one call and fail from then on.
+#[derive(Drop)]
+struct Once {
+    is_used: bool,
+}
+
+impl Read for Once {
+    fn read(&mut self, buf: &mut [u8]) -> io::Result<usize> {
+        if self.is_used || buf.is_empty() {
+            return Err(io::Error::from(ErrorKind::BrokenPipe));
+        }
+        self.is_used = true;
+        buf[0] = b'\n';
+        Ok(1)
+    }
+}
+
+impl Write for Once {
+    fn write(&mut self, buf: &[u8]) -> io::Result<usize> {
+        if self.is_used {
+            return Err(io::Error::from(ErrorKind::BrokenPipe));
+        }
+        self.is_used = true;
+        Ok(buf.len().min(1))
+    }
+
+    fn flush(&mut self) -> io::Result<()> {
+        Ok(())
+    }
+}
+
+#[test]
+fn a_reader_that_fails(rt: HostRuntime) -> Result<(), Fail> {
+    let alloc = rt.alloc();
+    let mut source = StdSource::make(Once { is_used: false });
+    let found = answers(alloc, &mut source, 3)?;
+    assert_eq!(rt; found.as_slice(), b"|ReadRead".as_slice());
+    Ok(())
+}
+
+#[test]
+fn a_writer_that_fails(rt: HostRuntime) -> Result<(), Fail> {
+    let mut sink = StdSink::make(Once { is_used: false });
+    assert_eq!(rt; put_all(&mut sink, b"a"), Ok(()));
+    assert_eq!(rt; put_all(&mut sink, b"a"), Err(PutFault));
+    Ok(())
+}
+
+/// A source and a sink that never fail and note how they are called. A take gives so many newlines;
+/// a put takes so many bytes.
+#[derive(Drop)]
+struct Noting {
+    each: usize,
+    calls: u64,
+    /// The lengths that the calls were made with, summed.
+    asked: u64,
+}
+
+fn start_noting(each: usize) -> Noting {
+    Noting {
+        each,
+        calls: 0,
+        asked: 0,
+    }
+}
+
+impl Source for Noting {
+    ghost left = { λ _. None };
+
+    ghost faults = { λ _. 0 };
+
+    fn take(&mut self, into: &mut [u8]) -> Result<usize, Failed> {
+        self.calls = self.calls.saturating_add(1);
+        self.asked = self.asked.saturating_add(into.len() as u64);
+        into.fill(b'\n');
+        Ok(into.len().min(self.each))
+    }
+}
+
+impl Sink for Noting {
+    ghost held = { λ _. None };
+
+    ghost faults = { λ _. 0 };
+
+    fn put(&mut self, piece: &[u8]) -> Result<usize, Failed> {
+        self.calls = self.calls.saturating_add(1);
+        self.asked = self.asked.saturating_add(piece.len() as u64);
+        Ok(piece.len().min(self.each.max(1)))
+    }
+}
+
+#[test]
+fn no_take_with_a_whole_line_in_hand(rt: HostRuntime) -> Result<(), Fail> {
+    let alloc = rt.alloc();
+    let mut source = start_noting(3);
+    assert_eq!(rt;
+        answers(alloc, &mut source, 3)?.as_slice(),
+        b"|||".as_slice()
+    );
+    assert_eq!(rt; source.calls, 1);
+    Ok(())
+}
+
+#[test]
+fn a_take_asks_for_4096_bytes(rt: HostRuntime) -> Result<(), Fail> {
+    let alloc = rt.alloc();
+    let mut source = start_noting(1);
+    assert_eq!(rt;
+        answers(alloc, &mut source, 3)?.as_slice(),
+        b"|||".as_slice()
+    );
+    assert_eq!(rt; source.calls, 3);
+    assert_eq!(rt; source.asked, 3 * 4_096);
+    Ok(())
+}
+
+#[test]
+fn a_put_passes_all_that_is_left(rt: HostRuntime) -> Result<(), Fail> {
+    let mut sink = start_noting(2);
+    assert_eq!(rt; put_all(&mut sink, b"abcdefg"), Ok(()));
+    assert_eq!(rt; sink.calls, 4);
+    assert_eq!(rt; sink.asked, 7 + 5 + 3 + 1);
     Ok(())
 }

@@ -93,7 +93,7 @@ module _ (source : Given) (sink : Written) (p q : Progress) (b : Option (List �
       → IsTold ReadFault source.left_old b sink.held_old held
   read_fault taken moves fails silent =
       told_more ReadFault taken reach.text moves (put_none sink.held_old sink.held_new held reach.text reach.put silent)
-      (λ left is. open_end taken moves fails.not_ended fails.no_line)
+      (λ left is. (omega (arith, fails.below_limit, counted_more taken moves.counted), open_end taken moves fails.not_ended fails.no_line))
 
   input_limit : (taken : List ℕ) → Moves p q source.left_new b source.faults_new m taken → ReachesLimit p q (p.in_hand ++ taken) → Put sink.held_new held []
       → IsTold InputLimit source.left_old b sink.held_old held

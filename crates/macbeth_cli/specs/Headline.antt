@@ -35,7 +35,7 @@ pub record IsFirstReplies (bytes left text : List ℕ) : Type 0 where
 abbrev pub Tells : Status → List ℕ → List ℕ → List ℕ → Type 0
 Tells Done bytes left text = ((quits : Bool) × IsAtTheEnd bytes left × IsTranscript true quits bytes text) ⊎ IsTranscript false true bytes text
 Tells BadWords bytes left text = (bytes ≡ []) × (text ≡ [])
-Tells ReadFault bytes left text = IsTranscript false false bytes text
+Tells ReadFault bytes left text = (length bytes < 2 ^ 30) × IsTranscript false false bytes text
 Tells WriteFault bytes left text = IsCutTranscript bytes left text
 Tells NoMemory bytes left text = IsFirstReplies bytes left text
 Tells InputLimit bytes left text = (length bytes ≡ 2 ^ 30) × IsTranscript false false bytes text

@@ -2,6 +2,7 @@ use super::*;
 use line_io::{MemSink, MemSource, NeverSink, NeverSource, Sink, Source};
 use session_edits::{Command, Name, Parsed, Reply, read_command, text};
 use std::alloc::Global;
+use std::env::{Env, FillError};
 use std::test::Fail;
 
 /// The criterion of the examples, judged, and the replies to that.
@@ -206,5 +207,67 @@ fn commands(rt: HostRuntime) -> Result<(), Fail> {
 #[test]
 fn texts(rt: HostRuntime) -> Result<(), Fail> {
     assert_eq!(rt; text(rt.alloc(), &Reply::Meets)?.as_str(), "meets\n");
+    Ok(())
+}
+
+/// An environment whose program has a name that isn't text, with these words behind it.
+#[derive(Drop)]
+struct Words<'a> {
+    words: &'a [&'a [u8]],
+}
+
+impl<'a> Env for Words<'a> {
+    fn arg(&self, i: usize, buf: &mut [u8]) -> Result<usize, FillError> {
+        let word = match i {
+            0 => b"\xff".as_slice(),
+            _ => match self.words.get(i - 1) {
+                Some(word) => *word,
+                None => return Err(FillError::NotPresent),
+            },
+        };
+        if word.len() > buf.len() {
+            return Err(FillError::TooLong);
+        }
+        buf[..word.len()].copy_from_slice(word);
+        Ok(word.len())
+    }
+
+    fn var(&self, _name: &str, _buf: &mut [u8]) -> Result<usize, FillError> {
+        Err(FillError::NotPresent)
+    }
+
+    fn var_at(&self, _i: usize, _buf: &mut [u8]) -> Result<usize, FillError> {
+        Err(FillError::NotPresent)
+    }
+}
+
+/// The words joined by bars, or the name of the status.
+fn words_text(alloc: Global, words: &[&[u8]]) -> Result<String, Fail> {
+    match words_of(&Words { words }, alloc) {
+        Err(status) => Ok(format!(in alloc; "{status:?}")?),
+        Ok(words) => {
+            let mut text = String::new(alloc);
+            for word in &words {
+                text.push_str(word.as_str())?;
+                text.push_str("|")?;
+            }
+            Ok(text)
+        }
+    }
+}
+
+#[test]
+fn words_that_are_text(rt: HostRuntime) -> Result<(), Fail> {
+    let alloc = rt.alloc();
+    for (words, want) in [
+        ([b"sample".as_slice(), b"12".as_slice()], "sample|12|"),
+        ([b"".as_slice(), b"\xc3\xa4".as_slice()], "|ä|"),
+        ([b"sample".as_slice(), b"\xff".as_slice()], "BadWords"),
+        ([b"\xc3".as_slice(), b"".as_slice()], "BadWords"),
+        ([[b'a'; 257].as_slice(), b"".as_slice()], "BadWords"),
+    ] {
+        assert_eq!(rt; words_text(alloc, &words)?.as_str(), want);
+    }
+    assert_eq!(rt; words_text(alloc, &[])?.as_str(), "");
     Ok(())
 }

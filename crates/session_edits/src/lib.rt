@@ -3,6 +3,7 @@
 
 mod command;
 mod criterion;
+pub mod laws;
 mod name;
 mod number;
 mod print;
