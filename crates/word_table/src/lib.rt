@@ -1,0 +1,11 @@
+//! Tables of words, each found by its bytes, and the tables of this program.
+#![tactic(auto)]
+
+mod tables;
+mod words;
+
+pub use tables::{CATEGORIES, COMMANDS, REFUSALS, categories, commands, refusals};
+pub use words::Words;
+
+#[cfg(test)]
+mod tests;
