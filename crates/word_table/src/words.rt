@@ -48,7 +48,7 @@ impl<'a, const N: usize> Words<'a, N> {
     }
 
     /// The word at a place.
-    pub fn word(&self, place: usize) -> &str
+    pub fn word(&self, place: usize) -> &'a str
         requires { place < N }
         ensures word { slice_get self.now place ≡ Some result.now }
         ensures found { find_word self.now result.now ≡ Some place }
