@@ -3,12 +3,13 @@ use Prim.Native.Nat.{◌∣◌}
 use Rattle.std.proofs.lemmas.Int.{unsigned_abs-mul}
 use Rattle.std.proofs.lemmas.Nat.Gcd.{dvd_trans, same_from_IsGcd}
 use Rattle.std.proofs.Common.{◌≡◌, ◌↔◌, ℕ, ◌*◌, ℤ, pos, negsuc, neg_ℤ, ◌+ℤ◌, ◌-ℤ◌, ◌*ℤ◌, ◌<ℤ◌, int_div, unsigned_abs, [], ◌∷◌, refl, sym, subst, subst₂}
-use Rattle.integers.specs.Divisibility.{AreCoprime, IsLowest, IsGcdOf}
-use Rattle.integers.proofs.Divisibility.{unsigned_abs-neg, quotient_positive, quotient_divides}
+use Rattle.integers.specs.Divisibility.{AreCoprime, IsLowest, IsGcdOf, gcd_of}
+use Rattle.integers.specs.Fraction.{Fraction, SameFraction}
+use Rattle.integers.proofs.Divisibility.{IsGcdOf-gcd_of, unsigned_abs-neg, quotient_whole, quotient_positive, quotient_divides}
 use Rattle.integers.proofs.Gcd.{AreCoprime_comm, dvd_of_coprime}
 use Rattle.integers.proofs.Order.{le_of_lt, mul_pos}
 use Rattle.integers.proofs.Ring.{con, neg, ◌⊕◌, ◌⊖◌, ◌⊗◌, ◌≗◌, ◌✶◌, ◌⇐◌, combine6, combine9, combine10}
-use Rattle.frac128.specs.Frac.{reciprocal}
+use Rattle.frac128.specs.Frac.{IsReduced, fraction_product, reciprocal}
 use Rattle.frac128.proofs.Numbers.{lowest_parts}
 
 -- ---- the values
@@ -57,21 +58,17 @@ product_reduced a b c d k l pb pd low low' pk pl hk hl = (
       (AreCoprime-divisors (unsigned_abs c) (unsigned_abs d) (unsigned_abs (int_div c l)) (unsigned_abs (int_div d k)) (quotient_divides c l pl hl.0) (quotient_divides d k pk hk.1) low'),
 )
 
--- ---- each greatest common divisor is the one at hand
+-- the product of the divided parts is reduced, and the product's value
+pub product_is : (f g : Fraction) (k l n m : ℤ) → IsReduced f → IsReduced g → pos 0 <ℤ k → pos 0 <ℤ l → k ≡ gcd_of f.num g.den → l ≡ gcd_of g.num f.den → n ≡ int_div f.num k *ℤ int_div g.num l → m ≡ int_div f.den l *ℤ int_div g.den k → IsReduced (record { num = n; den = m }) × SameFraction (record { num = n; den = m }) (fraction_product f g)
+product_is f g k l n m low low' pk pl k_is l_is n_is m_is =
+    let hk : IsGcdOf f.num g.den (unsigned_abs k) = rw k_is (IsGcdOf-gcd_of f.num g.den) in
+    let hl : IsGcdOf g.num f.den (unsigned_abs l) = rw l_is (IsGcdOf-gcd_of g.num f.den) in
+    rw (n_is, m_is) (
+      product_reduced f.num f.den g.num g.den k l low.0 low'.0 low.1 low'.1 pk pl hk hl,
+      product_value f.num f.den g.num g.den k l (int_div f.num k) (int_div g.num l) (int_div f.den l) (int_div g.den k) (quotient_whole f.num k pk hk.0) (quotient_whole f.den l pl hl.1) (quotient_whole g.num l pl hl.0) (quotient_whole g.den k pk hk.1),
+    )
 
--- what holds of all greatest common divisors holds of one
-pub any_divisor : (P : ℤ → Type 0) (a b z : ℤ) → pos 0 <ℤ z → IsGcdOf a b (unsigned_abs z) → ((k : ℕ) → IsGcdOf a b k → P (pos k)) ↔ P z
-any_divisor P a b (pos n) p h = (λ f. f n h, λ q k g. subst (λ m. P (pos m)) (same_from_IsGcd (unsigned_abs a) (unsigned_abs b) n k h g) q)
-any_divisor P a b (negsuc n) p h = absurd p.lt
-
--- the same for two
-pub any_divisors : (P : ℤ → ℤ → Type 0) (a b c d z w : ℤ) → pos 0 <ℤ z → pos 0 <ℤ w → IsGcdOf a d (unsigned_abs z) → IsGcdOf c b (unsigned_abs w) → ((k l : ℕ) → IsGcdOf a d k → IsGcdOf c b l → P (pos k) (pos l)) ↔ P z w
-any_divisors P a b c d z w pz pw hz hw = (
-  λ f. (any_divisor (λ u. P u w) a d z pz hz).0 (λ k g. (any_divisor (λ v. P (pos k) v) c b w pw hw).0 (λ l h. f k l g h)),
-  λ q k l g h. (any_divisor (λ v. P (pos k) v) c b w pw hw).1 ((any_divisor (λ u. P u w) a d z pz hz).1 q k g) l h,
-)
-
--- ---- turned over
+-- ---- the reciprocal
 
 -- lowest terms turned over
 pub IsLowest-comm : (a b : ℤ) → IsLowest a b → IsLowest b a

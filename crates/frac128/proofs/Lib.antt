@@ -1,3 +1,4 @@
+pub mod Checked
 pub mod Combination
 pub mod DecimalLemmas
 pub mod DigitLemmas

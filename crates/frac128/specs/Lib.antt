@@ -1,5 +1,7 @@
+pub mod Checked
 pub mod Decimal
 pub mod Entries
+pub mod Formula
 pub mod Frac
 pub mod Problem
 pub mod Range

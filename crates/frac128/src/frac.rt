@@ -1,11 +1,12 @@
 //! Exact fractions in lowest terms, whose parts are within -(2^127 - 1) to 2^127 - 1.
 
-ghost use Rattle.frac128.specs.Frac.{IsReduced, fraction_sum, fraction_difference, fraction_product, fraction_quotient, reciprocal, SumFits, SumFitsBy, DifferenceFits, DifferenceFitsBy, ProductFits, ProductFitsBy, QuotientFits};
+ghost use Rattle.frac128.specs.Checked.{checked_sum, checked_difference, checked_product, checked_quotient, IsExact, SumFits, DifferenceFits, ProductFits, QuotientFits};
+ghost use Rattle.frac128.specs.Frac.{IsReduced, fraction_sum, fraction_difference, fraction_product, fraction_quotient, lowest_terms, reciprocal};
 ghost use Rattle.frac128.specs.Range.{IsInRange};
-ghost use Rattle.integers.specs.Divisibility.{IsLowest, IsGcdOf};
+ghost use Rattle.integers.specs.Divisibility.{IsLowest, gcd_of};
 ghost use Rattle.integers.specs.Fraction.{SameFraction};
 ghost use Rattle.std.specs.Ordering.{int_cmp};
-ghost use Rattle.std.specs.Prelude.{◌≡◌, ◌≢◌, pos, unsigned_abs, ◌*ℤ◌, ◌≤ℤ◌, ◌<ℤ◌, IfOk, OnErr, OnOk};
+ghost use Rattle.std.specs.Prelude.{◌≡◌, ◌≢◌, pos, ◌*ℤ◌, ◌≤ℤ◌, ◌<ℤ◌, IfOk, OnErr, OnOk};
 
 use crate::number::{Number, TooWide};
 use crate::order::compare_numbers;
@@ -54,6 +55,7 @@ impl Frac {
     /// The fraction of numbers whose type keeps the range, in lowest terms.
     pub fn reduced(num: Number, den: Number) -> Frac
         requires { pos 0 <ℤ den }
+        ensures is { result ≡ lowest_terms (record { num = num; den = den }) }
         ensures value { result.num *ℤ den ≡ num *ℤ result.den }
         ensures lowest { IsReduced result }
     {
@@ -89,25 +91,20 @@ impl Frac {
         compare_numbers(self.num, self.den, other.num, other.den)
     }
 
-    /// The sum. It refuses where `a * (d / g)`, `c * (b / g)`, their sum or `b * (d / g)` is out of range, for `a / b + c / d`
-    /// and the greatest common divisor `g` of `b` and `d`.
+    /// The sum, in lowest terms. It refuses where `a * (d / g)`, `c * (b / g)`, their sum or `b * (d / g)` is out of range,
+    /// for `a / b + c / d` and the greatest common divisor `g` of `b` and `d`.
     pub fn add(&self, other: &Frac) -> Result<Frac, TooWide>
-        ensures ok { OnOk result (SumFits self.now other.now) }
-        ensures too_wide { OnErr result (¬ SumFits self.now other.now) }
-        ensures value { IfOk result (λ r. SameFraction r (fraction_sum self.now other.now)) }
-        ensures lowest { IfOk result IsReduced }
+        ensures is { result ≡ checked_sum self.now other.now }
+        ensures exact { IsExact result (SumFits self.now other.now) (fraction_sum self.now other.now) }
     {
         self.add_by(other, self.den.common_divisor(other.den))
     }
 
     // The sum, with the greatest common divisor of the denominators.
     fn add_by(&self, other: &Frac, divisor: Number) -> Result<Frac, TooWide>
-        requires divisor { IsGcdOf self.now.den other.now.den (unsigned_abs divisor) }
+        requires divisor { divisor ≡ gcd_of self.now.den other.now.den }
         requires positive { pos 0 <ℤ divisor }
-        ensures ok { OnOk result (SumFitsBy divisor self.now other.now) }
-        ensures too_wide { OnErr result (¬ SumFitsBy divisor self.now other.now) }
-        ensures value { IfOk result (λ r. SameFraction r (fraction_sum self.now other.now)) }
-        ensures lowest { IfOk result IsReduced }
+        ensures { IsExact result (SumFits self.now other.now) (fraction_sum self.now other.now) }
     {
         let left = self.den.quotient(divisor);
         let right = other.den.quotient(divisor);
@@ -116,25 +113,20 @@ impl Frac {
         Ok(Frac::reduced(num, den))
     }
 
-    /// The difference. It refuses where `a * (d / g)`, `c * (b / g)`, their difference or `b * (d / g)` is out of range, for
-    /// `a / b - c / d` and the greatest common divisor `g` of `b` and `d`.
+    /// The difference, in lowest terms. It refuses where `a * (d / g)`, `c * (b / g)`, their difference or `b * (d / g)` is
+    /// out of range, for `a / b - c / d` and the greatest common divisor `g` of `b` and `d`.
     pub fn sub(&self, other: &Frac) -> Result<Frac, TooWide>
-        ensures ok { OnOk result (DifferenceFits self.now other.now) }
-        ensures too_wide { OnErr result (¬ DifferenceFits self.now other.now) }
-        ensures value { IfOk result (λ r. SameFraction r (fraction_difference self.now other.now)) }
-        ensures lowest { IfOk result IsReduced }
+        ensures is { result ≡ checked_difference self.now other.now }
+        ensures exact { IsExact result (DifferenceFits self.now other.now) (fraction_difference self.now other.now) }
     {
         self.sub_by(other, self.den.common_divisor(other.den))
     }
 
     // The difference, with the greatest common divisor of the denominators.
     fn sub_by(&self, other: &Frac, divisor: Number) -> Result<Frac, TooWide>
-        requires divisor { IsGcdOf self.now.den other.now.den (unsigned_abs divisor) }
+        requires divisor { divisor ≡ gcd_of self.now.den other.now.den }
         requires positive { pos 0 <ℤ divisor }
-        ensures ok { OnOk result (DifferenceFitsBy divisor self.now other.now) }
-        ensures too_wide { OnErr result (¬ DifferenceFitsBy divisor self.now other.now) }
-        ensures value { IfOk result (λ r. SameFraction r (fraction_difference self.now other.now)) }
-        ensures lowest { IfOk result IsReduced }
+        ensures { IsExact result (DifferenceFits self.now other.now) (fraction_difference self.now other.now) }
     {
         let left = self.den.quotient(divisor);
         let right = other.den.quotient(divisor);
@@ -143,13 +135,11 @@ impl Frac {
         Ok(Frac::reduced(num, den))
     }
 
-    /// The product. It refuses where `(a / g) * (c / h)` or `(b / h) * (d / g)` is out of range, for `a / b * c / d` and the
-    /// greatest common divisors `g` of `a` and `d` and `h` of `c` and `b`.
+    /// The product, in lowest terms. It refuses where `(a / g) * (c / h)` or `(b / h) * (d / g)` is out of range, for
+    /// `a / b * c / d` and the greatest common divisors `g` of `a` and `d` and `h` of `c` and `b`.
     pub fn mul(&self, other: &Frac) -> Result<Frac, TooWide>
-        ensures ok { OnOk result (ProductFits self.now other.now) }
-        ensures too_wide { OnErr result (¬ ProductFits self.now other.now) }
-        ensures value { IfOk result (λ r. SameFraction r (fraction_product self.now other.now)) }
-        ensures lowest { IfOk result IsReduced }
+        ensures is { result ≡ checked_product self.now other.now }
+        ensures exact { IsExact result (ProductFits self.now other.now) (fraction_product self.now other.now) }
     {
         let first = self.num.common_divisor(other.den);
         let second = other.num.common_divisor(self.den);
@@ -158,31 +148,26 @@ impl Frac {
 
     // The product, with the greatest common divisors of each numerator and the other denominator.
     fn mul_by(&self, other: &Frac, first: Number, second: Number) -> Result<Frac, TooWide>
-        requires first { IsGcdOf self.now.num other.now.den (unsigned_abs first) }
-        requires second { IsGcdOf other.now.num self.now.den (unsigned_abs second) }
+        requires first { first ≡ gcd_of self.now.num other.now.den }
+        requires second { second ≡ gcd_of other.now.num self.now.den }
         requires positive { (pos 0 <ℤ first) × (pos 0 <ℤ second) }
-        ensures ok { OnOk result (ProductFitsBy first second self.now other.now) }
-        ensures too_wide { OnErr result (¬ ProductFitsBy first second self.now other.now) }
-        ensures value { IfOk result (λ r. SameFraction r (fraction_product self.now other.now)) }
-        ensures lowest { IfOk result IsReduced }
+        ensures { IsExact result (ProductFits self.now other.now) (fraction_product self.now other.now) }
     {
         let num = self.num.quotient(first).times(other.num.quotient(second))?;
         let den = self.den.quotient(second).times(other.den.quotient(first))?;
         Ok(Frac { num, den })
     }
 
-    /// The quotient by a fraction other than 0: the product with that one turned over, refused where that product is.
+    /// The quotient by a fraction other than 0: the product with its reciprocal, refused where that product is.
     pub fn div(&self, other: &Frac) -> Result<Frac, TooWide>
         requires { other.now.num ≢ pos 0 }
-        ensures ok { OnOk result (QuotientFits self.now other.now) }
-        ensures too_wide { OnErr result (¬ QuotientFits self.now other.now) }
-        ensures value { IfOk result (λ r. SameFraction r (fraction_quotient self.now other.now)) }
-        ensures lowest { IfOk result IsReduced }
+        ensures is { result ≡ checked_quotient self.now other.now }
+        ensures exact { IsExact result (QuotientFits self.now other.now) (fraction_quotient self.now other.now) }
     {
         self.mul(&other.inverse())
     }
 
-    // The fraction turned over.
+    // The reciprocal.
     fn inverse(&self) -> Frac
         requires { self.now.num ≢ pos 0 }
         ensures { result ≡ reciprocal self.now.num self.now.den }

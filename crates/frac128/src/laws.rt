@@ -1,6 +1,41 @@
 //! Laws of the definitions, as contracts of functions that do nothing.
+
+ghost use Rattle.frac128.specs.Checked.{checked_sum, checked_difference, checked_product, checked_quotient, IsExact, SumFits, DifferenceFits, ProductFits, QuotientFits};
 ghost use Rattle.frac128.specs.Text.{Writes};
-ghost use Rattle.std.specs.Prelude.{◌≡◌, ℕ, List, ℤ};
+ghost use Rattle.frac128.specs.Frac.{IsReduced, fraction_sum, fraction_difference, fraction_product, fraction_quotient, lowest_terms};
+ghost use Rattle.integers.specs.Fraction.{Fraction, IsFraction, SameFraction};
+ghost use Rattle.std.specs.Prelude.{◌≡◌, ◌≢◌, ℕ, List, ℤ, pos};
+
+/// States that a checked sum is the sum in lowest terms, exactly where the numbers that it forms are in range.
+pub fn sums_are_exact()
+    ensures { (f g : Fraction) → IsFraction f → IsFraction g
+        → IsExact (checked_sum f g) (SumFits f g) (fraction_sum f g) }
+{}
+
+/// States the same of a checked difference.
+pub fn differences_are_exact()
+    ensures { (f g : Fraction) → IsFraction f → IsFraction g
+        → IsExact (checked_difference f g) (DifferenceFits f g) (fraction_difference f g) }
+{}
+
+/// States the same of a checked product.
+pub fn products_are_exact()
+    ensures { (f g : Fraction) → IsFraction f → IsFraction g
+        → IsExact (checked_product f g) (ProductFits f g) (fraction_product f g) }
+{}
+
+/// States the same of a checked quotient by a fraction other than 0.
+pub fn quotients_are_exact()
+    ensures { (f g : Fraction) → IsFraction f → g.num ≢ pos 0
+        → IsExact (checked_quotient f g) (QuotientFits f g) (fraction_quotient f g) }
+{}
+
+/// States that each fraction has one way to be written in lowest terms.
+pub fn lowest_terms_are_unique()
+    ensures reduced { (f : Fraction) → IsFraction f → IsReduced (lowest_terms f) }
+    ensures same { (f : Fraction) → IsFraction f → SameFraction (lowest_terms f) f }
+    ensures unique { (f g : Fraction) → IsFraction g → IsReduced f → SameFraction f g → f ≡ lowest_terms g }
+{}
 
 /// States that bytes write one pair of numbers only. It does nothing.
 pub fn a_text_writes_one_pair()

@@ -1,7 +1,7 @@
 //! Whole numbers within -(2^127 - 1) to 2^127 - 1, and arithmetic that refuses what leaves that range.
 
 ghost use Rattle.frac128.specs.Range.{IsInRange};
-ghost use Rattle.integers.specs.Divisibility.{IsGcdOf};
+ghost use Rattle.integers.specs.Divisibility.{IsGcdOf, gcd_of};
 ghost use Rattle.std.specs.Int.{IsGcd};
 ghost use Rattle.std.specs.Prelude.{◌≡◌, pos, neg_ℤ, unsigned_abs, int_div, ◌+ℤ◌, ◌-ℤ◌, ◌*ℤ◌, ◌≤ℤ◌, ◌<ℤ◌, OkIff};
 
@@ -149,6 +149,7 @@ impl Number {
 
     /// The greatest common divisor, 0 where both numbers are 0.
     pub fn common_divisor(self, other: Number) -> Number
+        ensures is { result ≡ gcd_of self other }
         ensures divisor { IsGcdOf self other (unsigned_abs result) }
         ensures sign { pos 0 ≤ℤ result }
     {

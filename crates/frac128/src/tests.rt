@@ -1,3 +1,6 @@
+ghost use Rattle.frac128.specs.Formula.{determinant_of};
+ghost use Rattle.std.specs.Prelude.{◌≡◌};
+
 use crate::{Frac, TooWide, compare};
 use std::cmp::Ordering;
 use std::test::Fail;
@@ -41,6 +44,24 @@ fn products(rt: HostRuntime) -> Result<(), Fail> {
     if by.num() != 0 {
         assert_eq!(rt; parts(half.div(&by)), Ok((-MOST, 2)));
     }
+    Ok(())
+}
+
+// A formula is a chain of calls with `?`, and meets the chain of steps that defines it.
+#[tactic(auto, unfolding(crate::specs::Formula::determinant_of))]
+fn determinant(a: &Frac, b: &Frac, c: &Frac, d: &Frac) -> Result<Frac, TooWide>
+    ensures { result ≡ determinant_of a.now b.now c.now d.now }
+{
+    a.mul(d)?.sub(&b.mul(c)?)
+}
+
+#[test]
+fn formulas(rt: HostRuntime) -> Result<(), Fail> {
+    let half = made(1, 2)?;
+    let third = made(1, 3)?;
+    let most = made(MOST, 1)?;
+    assert_eq!(rt; parts(determinant(&half, &third, &third, &half)), Ok((5, 36)));
+    assert_eq!(rt; parts(determinant(&half, &most, &most, &half)), Err(TooWide));
     Ok(())
 }
 

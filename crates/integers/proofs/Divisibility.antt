@@ -5,9 +5,9 @@ use Rattle.std.specs.Int.{IsGcd}
 use Rattle.std.proofs.Math.Nat.{dvd-mul_left, dvd-mul_right, mul-dvd-mul_right, dvd_of_mul-dvd-mul_right, div-mul_cancel, mul_comm, one-dvd, one-mul, pos_of_dvd_of_pos}
 use Rattle.std.proofs.lemmas.Int.{unsigned_abs-mul}
 use Rattle.std.proofs.lemmas.List.Elements.{All-nil, All-cons, All-head, All-tail}
-use Rattle.std.proofs.lemmas.Nat.Gcd.{dvd_refl, dvd-zero, dvd_trans, dvd_antisymm}
+use Rattle.std.proofs.lemmas.Nat.Gcd.{dvd_refl, dvd-zero, dvd_trans, dvd_antisymm, same_from_IsGcd}
 use Rattle.std.proofs.Common.{◌≡◌, ◌↔◌, ℕ, zero, suc, ◌+◌, ◌*◌, ◌/◌, ◌<◌, length, get_or, drop, List, [], ◌∷◌, ℤ, pos, negsuc, ◌*ℤ◌, neg_ℤ, ◌≤ℤ◌, ◌<ℤ◌, unsigned_abs, int_div, refl, sym, ap, ap₂, subst, subst₂, ◌∙◌, arith, add-one, drop-cons}
-use Rattle.integers.specs.Divisibility.{IsLowest, IsGcdOf, DividesAll, IsGcdOfAll, quotients, divisor_of_all}
+use Rattle.integers.specs.Divisibility.{IsLowest, IsGcdOf, DividesAll, IsGcdOfAll, quotients, common_divisor, gcd_of, divisor_of_all}
 use Rattle.integers.specs.Vector.{dot, scale}
 use Rattle.integers.proofs.Gcd.{IsGcd-exists, IsGcd-common_divisor, dvd_of_coprime, AreCoprime-divided}
 use Rattle.integers.proofs.Laws.{*ℤ-neg_ℤ, lin, one-*ℤ}
@@ -200,6 +200,29 @@ lowest_terms a b g p h =
     let a_is : a ≡ c *ℤ pos g = sym (*ℤ_comm c (pos g) ∙ int_div-mul_cancel a g h.0) in
     let b_is : b ≡ d *ℤ pos g = sym (*ℤ_comm d (pos g) ∙ int_div-mul_cancel b g h.1) in
     (IsLowest-divided c d g some (subst₂ (λ x y. IsGcdOf x y g) a_is b_is h), (divided_pos b d (pos g) positive b_is).0 p, divided_same a b c d (pos g) a_is b_is)
+
+-- ---- the greatest common divisor of two numbers, as a number
+
+-- it is one
+pub IsGcdOf-gcd_of : (a b : ℤ) → IsGcdOf a b (unsigned_abs (gcd_of a b))
+unfolding gcd_of
+IsGcdOf-gcd_of a b = IsGcd-common_divisor (unsigned_abs a) (unsigned_abs b)
+
+-- it is not negative
+pub gcd_of_nonneg : (a b : ℤ) → pos 0 ≤ℤ gcd_of a b
+unfolding gcd_of
+gcd_of_nonneg a b = omega (arith, lin)
+
+-- with a positive number it is positive
+pub gcd_of_pos : (a b : ℤ) → pos 0 <ℤ b → pos 0 <ℤ gcd_of a b
+gcd_of_pos a b p = positive_divisor b (gcd_of a b) p (IsGcdOf-gcd_of a b).1 (gcd_of_nonneg a b)
+
+-- the greatest common divisor that code finds is this one
+pub gcd_of-is : (a b z : ℤ) → IsGcdOf a b (unsigned_abs z) → pos 0 ≤ℤ z → z ≡ gcd_of a b
+unfolding gcd_of
+gcd_of-is a b z h s = sym (pos-unsigned_abs z s) ∙ ap pos (same_from_IsGcd (unsigned_abs a) (unsigned_abs b) (unsigned_abs z) (common_divisor (unsigned_abs a) (unsigned_abs b)) h (IsGcd-common_divisor (unsigned_abs a) (unsigned_abs b)))
+
+-- ---- the greatest common divisor of a list, as a number
 
 -- a common divisor divides each dot product
 pub dvd-dot : (d : ℕ) (xs us : List ℤ) → DividesAll d xs → d ∣ unsigned_abs (dot xs us)

@@ -1,7 +1,7 @@
 -- Common divisors of whole numbers, by their absolute values.
 use Prim.Native.Nat.{◌∣◌}
 use Rattle.std.specs.Int.{IsGcd}
-use Rattle.std.specs.Prelude.{◌≡◌, ℕ, zero, suc, ◌%◌, true, false, nat_eq, List, [], ◌∷◌, ℤ, map, All, unsigned_abs, int_div}
+use Rattle.std.specs.Prelude.{◌≡◌, ℕ, zero, suc, ◌%◌, true, false, nat_eq, List, [], ◌∷◌, ℤ, pos, map, All, unsigned_abs, int_div}
 
 -- no number but 1 divides both
 abbrev pub AreCoprime : ℕ → ℕ → Type 0
@@ -35,6 +35,10 @@ divisor_within (suc steps) a b = elim (nat_eq b 0) [ true ↦ a | false ↦ divi
 -- the greatest common divisor of two naturals, 0 where both are 0
 abbrev pub common_divisor : ℕ → ℕ → ℕ
 common_divisor a b = divisor_within (suc b) a b
+
+-- the greatest common divisor of two whole numbers, 0 where both are 0
+unfoldable pub gcd_of : ℤ → ℤ → ℤ
+gcd_of a b = pos (common_divisor (unsigned_abs a) (unsigned_abs b))
 
 -- the greatest common divisor of the numbers, 0 where all are 0
 abbrev pub divisor_of_all : List ℤ → ℕ

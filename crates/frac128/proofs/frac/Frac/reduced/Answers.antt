@@ -1,6 +1,7 @@
 use Rattle.std.proofs.Common.{sym}
 use Rattle.integers.proofs.Divisibility.{positive_divisor}
 use Rattle.frac128.proofs.Numbers.{lowest_parts}
+use Rattle.frac128.proofs.Checked.{lowest_terms-unique}
 use Rattle.frac128.proofs.frac.Frac.reduced.Goals as goal
 
 pub quotient-requires : goal.quotient-requires
@@ -23,3 +24,6 @@ pub returns-clause-lowest : goal.returns-clause-lowest
 returns-clause-lowest c =
     let parts = lowest_parts c.args.num c.args.den c.common_divisor-divisor.result c.requires c.common_divisor-divisor.ensures.divisor c.common_divisor-divisor.ensures.sign in
     rw (c.quotient.ensures, c.quotient-2.ensures) (parts.1, parts.0)
+
+pub returns-clause-is : goal.returns-clause-is
+returns-clause-is c = lowest_terms-unique (record { num = c.quotient.result; den = c.quotient-2.result }) (record { num = c.args.num; den = c.args.den }) c.requires (returns-clause-lowest c) (returns-clause-value c)

@@ -1,26 +1,14 @@
-use Rattle.std.proofs.lemmas.Result.{on_err_weaker, on_ok_weaker}
-use Rattle.std.proofs.Common.{◌↔◌, unsigned_abs}
-use Rattle.integers.specs.Divisibility.{IsGcdOf}
-use Rattle.integers.proofs.Divisibility.{positive_divisor}
-use Rattle.frac128.specs.Frac.{DifferenceFits, DifferenceFitsBy}
-use Rattle.frac128.proofs.Fits.{any_divisor}
+use Rattle.std.proofs.Common.{rules, ◌≡◌, pos, ◌<ℤ◌}
+use Rattle.integers.specs.Divisibility.{gcd_of}
+use Rattle.integers.proofs.Divisibility.{gcd_of_pos}
+use Rattle.frac128.proofs.Checked.{checked_difference-is}
 use Rattle.frac128.proofs.frac.Frac.sub.Goals as goal
 
-pub sub_by-requires-clause-divisor : goal.sub_by-requires-clause-divisor
-sub_by-requires-clause-divisor c = rw (← c.self.view_is, ← c.other.view_is) c.common_divisor.ensures.divisor
-
 pub sub_by-requires-clause-positive : goal.sub_by-requires-clause-positive
-sub_by-requires-clause-positive c = positive_divisor c.other.inside.den c.common_divisor.result c.other.invariant.0 c.common_divisor.ensures.divisor.1 c.common_divisor.ensures.sign
+sub_by-requires-clause-positive c = rw c.common_divisor.ensures.is (gcd_of_pos c.self.inside.den c.other.inside.den c.other.invariant.0)
 
--- the divisor at hand stands for each
-fits : (c : goal.After-sub_by) → DifferenceFits c.args.self.now c.args.other.now ↔ DifferenceFitsBy c.common_divisor.result c.args.self.now c.args.other.now
-fits c =
-    let positive = positive_divisor c.other.inside.den c.common_divisor.result c.other.invariant.0 c.common_divisor.ensures.divisor.1 c.common_divisor.ensures.sign in
-    let divisor : IsGcdOf c.args.self.now.den c.args.other.now.den (unsigned_abs c.common_divisor.result) = rw (← c.self.view_is, ← c.other.view_is) c.common_divisor.ensures.divisor in
-    any_divisor (λ k. DifferenceFitsBy k c.args.self.now c.args.other.now) c.args.self.now.den c.args.other.now.den c.common_divisor.result positive divisor
-
-pub returns-clause-ok : goal.returns-clause-ok
-returns-clause-ok c = on_ok_weaker c.sub_by.result (fits c).1 c.sub_by.ensures.ok
-
-pub returns-clause-too_wide : goal.returns-clause-too_wide
-returns-clause-too_wide c = on_err_weaker c.sub_by.result (λ n h. n ((fits c).0 h)) c.sub_by.ensures.too_wide
+pub returns-clause-is : goal.returns-clause-is
+returns-clause-is c =
+    let left : pos 0 <ℤ c.args.self.now.den = search rules in
+    let right : pos 0 <ℤ c.args.other.now.den = search rules in
+    checked_difference-is c.args.self.now c.args.other.now c.sub_by.result left right c.sub_by.ensures

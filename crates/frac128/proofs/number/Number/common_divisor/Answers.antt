@@ -2,6 +2,7 @@ use mir.Syntax.{w128}
 use Rattle.std.specs.Int.{IsGcd}
 use Rattle.std.proofs.lemmas.Int.{fits_signed_from_abs, to_z_pos}
 use Rattle.std.proofs.Common.{rules, ◌≡◌, ◌<◌, ◌^◌, pos, unsigned_abs, to_z, subst₂}
+use Rattle.integers.proofs.Divisibility.{gcd_of-is}
 use Rattle.frac128.proofs.Numbers.{IsGcd-below, pos_nonneg}
 use Rattle.frac128.proofs.number.Number.common_divisor.Goals as goal
 
@@ -31,3 +32,6 @@ returns-clause-divisor c =
 
 pub returns-clause-sign : goal.returns-clause-sign
 returns-clause-sign c = rw (kept c) (pos_nonneg c.greatest_common_divisor-divisor.result)
+
+pub returns-clause-is : goal.returns-clause-is
+returns-clause-is c = gcd_of-is c.args.self c.args.other (to_z w128 c.greatest_common_divisor-divisor.result) (returns-clause-divisor c) (returns-clause-sign c)
