@@ -2,6 +2,8 @@ pub mod Counting
 pub mod Divisibility
 pub mod DivisorLists
 pub mod Examples
+pub mod FractionOrder
+pub mod FractionSums
 pub mod Fractions
 pub mod Gcd
 pub mod Laws
@@ -19,3 +21,4 @@ pub mod Vector
 pub mod VectorLaws
 pub mod VectorOrder
 pub mod Zeros
+pub mod Writings

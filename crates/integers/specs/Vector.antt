@@ -51,6 +51,11 @@ abbrev pub int_sum : List ℤ → ℤ
 int_sum [] = pos 0
 int_sum (x ∷ xs) = x +ℤ int_sum xs
 
+-- a first number and then one more at each step: the sums, without the first
+abbrev pub running_sums : ℤ → List ℤ → List ℤ
+running_sums a [] = []
+running_sums a (x ∷ xs) = (a +ℤ x) ∷ running_sums (a +ℤ x) xs
+
 -- n numbers, 1 at the place j and 0 elsewhere
 abbrev pub unit_vector : ℕ → ℕ → List ℤ
 unit_vector n j = set (replicate n (pos 0)) j (pos 1)

@@ -5,6 +5,8 @@ ghost use Rattle.integers.specs.Divisibility.{AreCoprime};
 ghost use Rattle.integers.specs.Lexicographic.{IsLexPositive};
 ghost use Rattle.std.specs.Prelude.{◌≡◌, ◌↔◌, ◌*ℤ◌, IsTrue};
 
+pub mod number_laws;
+
 /// Whether `a / b` and `c / d` are one number, by cross products. Denominators other than 0 give this meaning.
 pub fn is_same_fraction(a: i64, b: i64, c: i64, d: i64) -> bool
     ensures { IsTrue result ↔ (a *ℤ d ≡ c *ℤ b) }
