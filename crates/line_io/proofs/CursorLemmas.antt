@@ -2,7 +2,7 @@
 use Rattle.std.proofs.Common.{◌≡◌, ◌≢◌, ◌⊎◌, ℕ, ◌+◌, ◌-◌, ◌^◌, ◌<◌, ◌≤◌, ◌↔◌, Bool, true, false, List, [], ◌∷◌, ◌++◌, Option, None, Some, IsTrue, Ok, Err, length, take, drop, get_or, refl, sym, ap, subst, ◌∙◌, inl, inr, append_assoc, arith, length-append, length-take, length-drop, take-append-drop, take_all, rules, cond, get_or-drop}
 use Rattle.std.proofs.lemmas.List.{append-nil, drop_more, take-append-le, nil_from_length}
 use Rattle.std.proofs.lemmas.List.Elements.{All-nil, All-append, All-take, All-same}
-use Rattle.line_io.specs.Outside.{Rose, IsAtEnd}
+use Rattle.line_io.specs.Outside.{change, Rose, IsAtEnd}
 use Rattle.line_io.specs.Lines.{Progress, IsUnbroken, Splits, without_return, Moves}
 use Rattle.line_io.specs.Window.{IsFirstNewline, Gains}
 use Rattle.line_io.specs.Cursor.{rest_after, IsGiven, Finds, Sought, Reaches, Sheds}
@@ -28,38 +28,42 @@ pub IsUnbroken-same : (xs ys : List ℕ) → xs ≡ ys → IsUnbroken ys → IsU
 IsUnbroken-same xs ys = All-same (λ b. b ≢ 10) xs ys
 
 -- before anything was taken
-pub Moves-start : (p : Progress) (a : Option (List ℕ)) (m : ℕ) → p.taken ≤ 2 ^ 30 → Moves p p a a m m []
+pub Moves-start : (p : Progress) (a : Option (List ℕ)) (m : ℕ) → p.taken ≤ 2 ^ 30 → Moves p p (change a a m m) []
 Moves-start p a m within = record {
-  took = Took-nil a;
-  counted = omega arith;
-  within = within;
-  faults = omega arith;
+  takes = record {
+    took = Took-nil a;
+    counted = omega arith;
+    within = within;
+    faults = omega arith;
+    none_after_end = λ _. refl;
+    stays_ended = λ h. h;
+    end_seen = λ no yes. absurd (cc);
+  };
   none_after_fault = λ _. refl;
-  none_after_end = λ _. refl;
   none_with_line = λ _. refl;
-  stays_ended = λ h. h;
-  end_seen = λ no yes. absurd (cc);
 }
 
 -- what is in hand, or the fault, may change in between
 pub Moves-same : (old mid new : Progress) (a b : Option (List ℕ)) (m n : ℕ) (bytes : List ℕ)
-    → new.taken ≡ mid.taken → new.ended ≡ mid.ended → Moves old mid a b m n bytes → Moves old new a b m n bytes
+    → new.taken ≡ mid.taken → new.ended ≡ mid.ended → Moves old mid (change a b m n) bytes → Moves old new (change a b m n) bytes
 Moves-same old mid new a b m n bytes taken ended h = record {
-  took = h.took;
-  counted = taken ∙ h.counted;
-  within = omega (arith, taken, h.within);
-  faults = h.faults;
+  takes = record {
+    took = h.takes.took;
+    counted = taken ∙ h.takes.counted;
+    within = omega (arith, taken, h.takes.within);
+    faults = h.takes.faults;
+    none_after_end = h.takes.none_after_end;
+    stays_ended = λ was. ended ∙ h.takes.stays_ended was;
+    end_seen = λ no yes. let seen = h.takes.end_seen no (sym ended ∙ yes) in (seen.0, omega (arith, taken, seen.1));
+  };
   none_after_fault = h.none_after_fault;
-  none_after_end = h.none_after_end;
   none_with_line = h.none_with_line;
-  stays_ended = λ was. ended ∙ h.stays_ended was;
-  end_seen = λ no yes. let seen = h.end_seen no (sym ended ∙ yes) in (seen.0, omega (arith, taken, seen.1));
 }
 
 -- what the loop of the search keeps
 pub record Seeking (old new : Progress) (a b : Option (List ℕ)) (m n dropped searched held : ℕ) : Type 0 where
   pub bytes : List ℕ
-  pub moves : Moves old new a b m n bytes
+  pub moves : Moves old new (change a b m n) bytes
   pub sought : Sought (old.in_hand ++ bytes) new.in_hand dropped
   pub no_fault_before : old.fault ≡ None
   pub no_fault : new.fault ≡ None
@@ -89,7 +93,7 @@ Seeking-start p a m held within no_fault is room = record {
 pub Seeking-bound : (old new : Progress) (a b : Option (List ℕ)) (m n dropped searched held : ℕ)
     → Seeking old new a b m n dropped searched held → dropped + held < 2 ^ 31
 Seeking-bound old new a b m n dropped searched held h =
-    omega (arith, ap length h.sought.split, length-append old.in_hand h.bytes, length-append h.sought.gone new.in_hand, h.sought.count, h.held_is, h.moves.counted, h.moves.within, h.room_before)
+    omega (arith, ap length h.sought.split, length-append old.in_hand h.bytes, length-append h.sought.gone new.in_hand, h.sought.count, h.held_is, h.moves.takes.counted, h.moves.takes.within, h.room_before)
 
 -- with no newline behind what was searched there is none in hand
 pub Seeking-no_line : (old new : Progress) (a b : Option (List ℕ)) (m n dropped searched held : ℕ)
@@ -120,7 +124,7 @@ split_at xs n b within is =
 -- a newline was found: the piece before it is reached
 pub Seeking-whole : (old new : Progress) (a b : Option (List ℕ)) (m n dropped searched held at : ℕ)
     → Seeking old new a b m n dropped searched held → IsFirstNewline (drop searched new.in_hand) (Some at)
-    → Reaches old new a b m n (Ok (record { dropped = dropped; len = searched + at; whole = true }))
+    → Reaches old new (change a b m n) (Ok (record { dropped = dropped; len = searched + at; whole = true }))
 Seeking-whole old new a b m n dropped searched held at h (within, before, newline) =
     let inside : searched + at < length new.in_hand = omega (arith, within, length-drop searched new.in_hand, h.held_is, h.searched_in) in
     let bound = Seeking-bound old new a b m n dropped searched held h in record {
@@ -144,7 +148,7 @@ Seeking-whole old new a b m n dropped searched held at h (within, before, newlin
 -- the end was seen: what is in hand is the last piece
 pub Seeking-last : (old new : Progress) (a b : Option (List ℕ)) (m n dropped searched held : ℕ)
     → Seeking old new a b m n dropped searched held → IsUnbroken new.in_hand → new.ended ≡ true
-    → Reaches old new a b m n (Ok (record { dropped = dropped; len = held; whole = false }))
+    → Reaches old new (change a b m n) (Ok (record { dropped = dropped; len = held; whole = false }))
 Seeking-last old new a b m n dropped searched held h none ended =
     let bound = Seeking-bound old new a b m n dropped searched held h in record {
       bytes = h.bytes;
@@ -166,7 +170,7 @@ Seeking-last old new a b m n dropped searched held h none ended =
 -- all that may be taken was taken
 pub Seeking-limit : (old new : Progress) (a b : Option (List ℕ)) (m n dropped searched held : ℕ)
     → Seeking old new a b m n dropped searched held → IsUnbroken new.in_hand → new.ended ≡ false → new.taken ≡ 2 ^ 30
-    → Reaches old new a b m n (Err Limit)
+    → Reaches old new (change a b m n) (Err Limit)
 Seeking-limit old new a b m n dropped searched held h none going at = record {
   bytes = h.bytes;
   moves = h.moves;
@@ -181,24 +185,26 @@ Seeking-limit old new a b m n dropped searched held h none going at = record {
 -- a take failed
 pub Seeking-read : (old mid new : Progress) (a b c : Option (List ℕ)) (m n k dropped searched held : ℕ)
     → Seeking old mid a b m n dropped searched held → IsUnbroken mid.in_hand → mid.ended ≡ false → mid.taken < 2 ^ 30
-    → new ≡ mid → c ≡ b → n ≤ k → Rose n k → Reaches old new a c m k (Err Read)
+    → new ≡ mid → c ≡ b → n ≤ k → Rose n k → Reaches old new (change a c m k) (Err Read)
 Seeking-read old mid new a b c m n k dropped searched held h none going below same left later rose =
-    subst (λ p. Reaches old p a c m k (Err Read)) (sym same) (subst (λ o. Reaches old mid a o m k (Err Read)) (sym left) record {
+    subst (λ p. Reaches old p (change a c m k) (Err Read)) (sym same) (subst (λ o. Reaches old mid (change a o m k) (Err Read)) (sym left) record {
       bytes = h.bytes;
       moves = record {
-        took = h.moves.took;
-        counted = h.moves.counted;
-        within = h.moves.within;
-        faults = omega (arith, h.moves.faults);
+        takes = record {
+          took = h.moves.takes.took;
+          counted = h.moves.takes.counted;
+          within = h.moves.takes.within;
+          faults = omega (arith, h.moves.takes.faults);
+          none_after_end = h.moves.takes.none_after_end;
+          stays_ended = h.moves.takes.stays_ended;
+          end_seen = h.moves.takes.end_seen;
+        };
         none_after_fault = h.moves.none_after_fault;
-        none_after_end = h.moves.none_after_end;
         none_with_line = h.moves.none_with_line;
-        stays_ended = h.moves.stays_ended;
-        end_seen = h.moves.end_seen;
       };
       reached = record {
         no_fault_before = h.no_fault_before;
-        rose = Rose-earlier m n k h.moves.faults rose;
+        rose = Rose-earlier m n k h.moves.takes.faults rose;
         no_line = Seeking-unbroken old mid a b m n dropped searched held h none;
         not_ended = going;
         below_limit = below;
@@ -256,24 +262,26 @@ Seeking-shed old mid new a b m n dropped searched held count h none (inr (long, 
 -- so many bytes were taken
 pub Seeking-take : (old mid new : Progress) (a b c : Option (List ℕ)) (m n k dropped held count : ℕ)
     → Seeking old mid a b m n dropped held held → IsUnbroken mid.in_hand → held ≤ 65536 → mid.ended ≡ false → mid.taken < 2 ^ 30
-    → Gains b c mid.in_hand new.in_hand count → new.taken ≡ mid.taken + count → count ≤ 4096 → new.taken ≤ 2 ^ 30
+    → Gains (change b c n k) mid.in_hand new.in_hand count → new.taken ≡ mid.taken + count → count ≤ 4096 → new.taken ≤ 2 ^ 30
     → (IsTrue new.ended ↔ (count ≡ 0)) → (count ≡ 0 → IsAtEnd c) → n ≤ k → new.fault ≡ mid.fault
     → Seeking old new a c m k dropped held (held + count)
 Seeking-take old mid new a b c m n k dropped held count h none short going below gains counted most within ended at_end later fault =
-    let started : old.ended ≡ true → ⊥ = λ was. let is = h.moves.stays_ended was in cc in
+    let started : old.ended ≡ true → ⊥ = λ was. let is = h.moves.takes.stays_ended was in cc in
     let unbroken = IsUnbroken-left old.in_hand h.bytes (Seeking-unbroken old mid a b m n dropped held held h none) in
     let front : take held new.in_hand ≡ mid.in_hand = ap (take held) gains.behind ∙ take-append-le held mid.in_hand gains.bytes (omega (arith, h.held_is)) ∙ take_all held mid.in_hand (omega (arith, h.held_is)) in record {
       bytes = h.bytes ++ gains.bytes;
       moves = record {
-        took = Took-append a b c h.bytes gains.bytes h.moves.took gains.took;
-        counted = omega (arith, length-append h.bytes gains.bytes, gains.count_is, h.moves.counted);
-        within = within;
-        faults = omega (arith, h.moves.faults);
+        takes = record {
+          took = Took-append a b c h.bytes gains.bytes h.moves.takes.took gains.took;
+          counted = omega (arith, length-append h.bytes gains.bytes, gains.count_is, h.moves.takes.counted);
+          within = within;
+          faults = omega (arith, h.moves.takes.faults);
+          none_after_end = λ was. absurd (started was);
+          stays_ended = λ was. absurd (started was);
+          end_seen = λ no yes. let none_taken = ended.0 yes in (at_end none_taken, omega arith);
+        };
         none_after_fault = λ some. let is : old.fault ≡ None = h.no_fault_before in absurd (search rules);
-        none_after_end = λ was. absurd (started was);
         none_with_line = λ line. absurd (line unbroken);
-        stays_ended = λ was. absurd (started was);
-        end_seen = λ no yes. let none_taken = ended.0 yes in (at_end none_taken, omega arith);
       };
       sought = record {
         gone = h.sought.gone;
@@ -335,9 +343,9 @@ piece_len gone in_hand dropped len is within = omega (arith, length-append gone 
 
 -- a piece that was found and given is the first of the stream
 pub Reaches-gives : (old mid new : Progress) (a b : Option (List ℕ)) (m n : ℕ) (piece : Piece) (line : List ℕ) (found : Found)
-    → old.fault ≡ None → Reaches old mid a b m n (Ok piece) → new.in_hand ≡ rest_after piece mid.in_hand
+    → old.fault ≡ None → Reaches old mid (change a b m n) (Ok piece) → new.in_hand ≡ rest_after piece mid.in_hand
     → new.taken ≡ mid.taken → new.ended ≡ mid.ended → new.fault ≡ mid.fault → IsGiven mid.in_hand piece line found
-    → Finds old new a b m n line (Ok found)
+    → Finds old new (change a b m n) line (Ok found)
 Reaches-gives old mid new a b m n piece line Line no_fault h rest taken ended fault (short, is, some) =
     let r = h.reached.1 in
     let s = h.reached.2 in

@@ -1,6 +1,7 @@
 // How far the reading has come, with the window.
 ghost use Rattle.std.specs.Prelude.{◌≡◌, ◌+◌, ◌^◌, ◌<◌, ◌≤◌, ◌↔◌, ℕ, List, Option, None, length, IfOk, IfErr, OnErr, IsTrue};
-ghost use Rattle.line_io.specs.Outside.{Rose, IsAtEnd};
+ghost use Rattle.line_io.specs.Outside.{change_of, Fails, IsAtEnd};
+ghost use Rattle.line_io.specs.declared.lines.TheConstants.{INPUT_LIMIT, LINE_LIMIT, TAKE_LEN};
 ghost use Rattle.line_io.specs.Window.{Gains};
 
 use crate::lines::{INPUT_LIMIT, LINE_LIMIT, LineFault, TAKE_LEN};
@@ -15,7 +16,8 @@ pub(crate) enum Found {
     End,
 }
 
-/// What was found at the front of the bytes in hand: the rest of a piece of which so many bytes were dropped.
+/// What was found at the front of the bytes in hand: the rest of a piece of which so many bytes were
+/// dropped.
 #[derive(Clone, Copy)]
 struct Piece {
     dropped: u64,
@@ -30,7 +32,7 @@ pub(crate) struct Cursor {
     taken: u64,
     ended: bool,
     fault: Option<LineFault>,
-    ghost within: { taken ≤ 1073741824 },
+    ghost within: { taken ≤ INPUT_LIMIT },
 }
 
 impl Cursor {
@@ -57,8 +59,8 @@ impl Cursor {
 
     /// Gives the next line, takes bytes until there is one, or says why there is none.
     pub(crate) fn advance<S: Source>(&mut self, source: &mut S) -> Result<Found, LineFault>
-        ensures { Finds (progress self.old) (progress self.new) (S.left source.old) (S.left source.new)
-            (S.faults source.old) (S.faults source.new) self.new.window.line result }
+        ensures { Finds (progress self.old) (progress self.new)
+            (change_of S.left S.faults source.old source.new) self.new.window.line result }
     {
         if let Some(fault) = self.fault {
             return Err(fault);
@@ -75,8 +77,8 @@ impl Cursor {
     // Takes bytes until a whole piece is in hand, and drops the bytes of one that is already too long.
     fn find<S: Source>(&mut self, source: &mut S) -> Result<Piece, LineFault>
         requires { self.old.fault ≡ None }
-        ensures { Reaches (progress self.old) (progress self.new) (S.left source.old) (S.left source.new)
-            (S.faults source.old) (S.faults source.new) result }
+        ensures { Reaches (progress self.old) (progress self.new)
+            (change_of S.left S.faults source.old source.new) result }
     {
         let mut dropped: u64 = 0;
         let mut searched = 0;
@@ -123,15 +125,15 @@ impl Cursor {
 
     // Takes some bytes, as many as there may be.
     fn more<S: Source>(&mut self, source: &mut S) -> Result<usize, Failed>
-        requires room { length self.old.window.in_hand ≤ 65536 }
-        requires below_limit { self.old.taken < 2 ^ 30 }
-        ensures taken { IfOk result (λ k. Gains (S.left source.old) (S.left source.new)
+        requires room { length self.old.window.in_hand ≤ LINE_LIMIT }
+        requires below_limit { self.old.taken < INPUT_LIMIT }
+        ensures taken { IfOk result (λ k. Gains (change_of S.left S.faults source.old source.new)
             self.old.window.in_hand self.new.window.in_hand k × (self.new.taken ≡ self.old.taken + k)
-            × (k ≤ 4096)) }
+            × (k ≤ TAKE_LEN)) }
         ensures ended { IfOk result (λ k. IsTrue self.new.ended ↔ (k ≡ 0)) }
         ensures at_end { IfOk result (λ k. k ≡ 0 → IsAtEnd (S.left source.new)) }
-        ensures failed { OnErr result (Rose (S.faults source.old) (S.faults source.new)
-            × (S.left source.new ≡ S.left source.old) × (progress self.new ≡ progress self.old)) }
+        ensures failed { OnErr result (Fails (change_of S.left S.faults source.old source.new)
+            × (progress self.new ≡ progress self.old)) }
         ensures count { S.faults source.old ≤ S.faults source.new }
         ensures fault { self.new.fault ≡ self.old.fault }
     {

@@ -3,6 +3,7 @@ ghost use Rattle.std.specs.Prelude.{◌≡◌, IfOk};
 ghost use Rattle.std.specs.Borrow.{sem};
 ghost use Rattle.std.specs.Io.BufRead.{Rests};
 ghost use Rattle.line_io.specs.Lines.{start, Advances};
+ghost use Rattle.line_io.specs.Outside.{change_of};
 ghost use Rattle.line_io.specs.contracts.lines.Lines.{the_row};
 
 use crate::NoMemory;
@@ -68,11 +69,11 @@ impl Lines {
     ///
     /// # Errors
     ///
-    /// `Read` where a take failed, `Limit` where `INPUT_LIMIT` bytes were taken with no whole line left and no end
-    /// seen. From then on the same fault is answered.
+    /// `Read` where a take failed, `Limit` where `INPUT_LIMIT` bytes were taken with no whole line left
+    /// and no end seen. From then on the same fault is answered.
     pub fn next<S: Source>(&mut self, source: &mut S) -> Result<Item<'_>, LineFault>
         ensures* { sem 𝓛 (Rests the_row self.entry (λ new. Advances self.old new
-            (S.left source.old) (S.left source.new) (S.faults source.old) (S.faults source.new) result)) }
+            (change_of S.left S.faults source.old source.new) result)) }
     {
         match self.cursor.advance(source)? {
             Found::Line => Ok(Item::Line(self.cursor.line())),

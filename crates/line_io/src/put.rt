@@ -1,6 +1,6 @@
 //! Putting all bytes into a sink.
 ghost use Rattle.std.specs.Prelude.{◌≡◌, ◌≤◌, [], IsOk, OnOk, OnErr};
-ghost use Rattle.line_io.specs.Outside.{Put, PutsFront};
+ghost use Rattle.line_io.specs.Outside.{change_of, Put, PutsFront};
 
 use crate::outside::{Failed, Sink};
 
@@ -15,8 +15,7 @@ pub struct PutFault;
 /// `PutFault` where a put failed; the sink took some of the bytes from the front then.
 pub fn put_all<K: Sink>(sink: &mut K, bytes: &[u8]) -> Result<(), PutFault>
     ensures ok { OnOk result (Put (K.held sink.old) (K.held sink.new) bytes.now) }
-    ensures err { OnErr result (PutsFront (K.held sink.old) (K.held sink.new)
-        (K.faults sink.old) (K.faults sink.new) bytes.now) }
+    ensures err { OnErr result (PutsFront (change_of K.held K.faults sink.old sink.new) bytes.now) }
     ensures no_bytes { bytes.now ≡ [] → IsOk result × (sink.new ≡ sink.old) }
     ensures count { K.faults sink.old ≤ K.faults sink.new }
 {

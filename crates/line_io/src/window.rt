@@ -2,7 +2,8 @@
 ghost use Rattle.std.specs.Prelude.{◌≡◌, ◌+◌, ◌<◌, ◌≤◌, [], ◌++◌, List, ℕ, length, take, drop, IfOk, OnErr, slice_range, vec_len, ◌-◌};
 ghost use Rattle.line_io.specs.Window.{IsFirstNewline, Gains};
 ghost use Rattle.line_io.specs.Lines.{without_return};
-ghost use Rattle.line_io.specs.Outside.{Rose, Took, IsAtEnd};
+ghost use Rattle.line_io.specs.Outside.{change_of, Fails, Took, IsAtEnd};
+ghost use Rattle.line_io.specs.declared.lines.TheConstants.{LINE_LIMIT, TAKE_LEN};
 
 use crate::lines::{LINE_LIMIT, TAKE_LEN};
 use crate::outside::{Failed, Source};
@@ -23,8 +24,9 @@ pub(crate) struct Window {
 }
 
 impl Model for Window {
-    ghost use Rattle.std.specs.Prelude.{◌≡◌, ◌≤◌, slice_range, vec_len};
+    ghost use Rattle.std.specs.Prelude.{◌≡◌, ◌+◌, ◌≤◌, slice_range, vec_len};
     ghost use Rattle.line_io.specs.Window.{Held};
+    ghost use Rattle.line_io.specs.declared.lines.TheConstants.{LINE_LIMIT, TAKE_LEN};
 
     ghost Value = { Held };
 
@@ -34,7 +36,7 @@ impl Model for Window {
     } };
 
     ghost invariant = { λ w. (w.line ≤ w.line_end) × (w.line_end ≤ w.end) × (w.start ≤ w.end)
-        × (w.end ≤ 69632) × (vec_len w.bytes ≡ 69632) };
+        × (w.end ≤ LINE_LIMIT + TAKE_LEN) × (vec_len w.bytes ≡ LINE_LIMIT + TAKE_LEN) };
 }
 
 /// The place of the first newline.
@@ -82,7 +84,7 @@ impl Window {
     /// How many bytes are in hand.
     pub(crate) fn len(&self) -> usize
         ensures value { result ≡ length self.now.in_hand }
-        ensures bound { result ≤ 69632 }
+        ensures bound { result ≤ LINE_LIMIT + TAKE_LEN }
     {
         self.end - self.start
     }
@@ -120,13 +122,13 @@ impl Window {
 
     /// Takes at most so many bytes from a source, behind those in hand.
     pub(crate) fn fill<S: Source>(&mut self, source: &mut S, most: usize) -> Result<usize, Failed>
-        requires room { length self.old.in_hand ≤ 65536 }
-        requires most { most ≤ 4096 }
-        ensures taken { IfOk result (λ k. (k ≤ most) × Gains (S.left source.old) (S.left source.new)
-            self.old.in_hand self.new.in_hand k) }
+        requires room { length self.old.in_hand ≤ LINE_LIMIT }
+        requires most { most ≤ TAKE_LEN }
+        ensures taken { IfOk result (λ k. (k ≤ most) × Gains
+            (change_of S.left S.faults source.old source.new) self.old.in_hand self.new.in_hand k) }
         ensures end { IfOk result (λ k. 0 < most → k ≡ 0 → IsAtEnd (S.left source.new)) }
-        ensures failed { OnErr result (Rose (S.faults source.old) (S.faults source.new)
-            × (S.left source.new ≡ S.left source.old) × (self.new.in_hand ≡ self.old.in_hand)) }
+        ensures failed { OnErr result (Fails (change_of S.left S.faults source.old source.new)
+            × (self.new.in_hand ≡ self.old.in_hand)) }
         ensures count { S.faults source.old ≤ S.faults source.new }
     {
         move_to_front(&mut self.bytes, self.start, self.end);
@@ -165,8 +167,7 @@ fn take_at<S: Source>(
     ensures before { take at bytes.new.items ≡ take at bytes.old.items }
     ensures len { vec_len bytes.new ≡ vec_len bytes.old }
     ensures end { IfOk result (λ k. 0 < most → k ≡ 0 → IsAtEnd (S.left source.new)) }
-    ensures failed { OnErr result (Rose (S.faults source.old) (S.faults source.new)
-        × (S.left source.new ≡ S.left source.old)) }
+    ensures failed { OnErr result (Fails (change_of S.left S.faults source.old source.new)) }
     ensures count { S.faults source.old ≤ S.faults source.new }
 {
     source.take(&mut bytes[at..at + most])

@@ -1,6 +1,6 @@
 //! The top call.
 ghost use Rattle.std.specs.Prelude.{◌≡◌, ◌≢◌, ◌↔◌, []};
-ghost use Rattle.line_io.specs.Outside.{Rose};
+ghost use Rattle.line_io.specs.Outside.{change_of, Rose};
 ghost use Rattle.macbeth_cli.specs.Headline.{IsTold};
 
 use crate::status::Status;
@@ -18,7 +18,8 @@ pub fn run<S: Source, K: Sink>(
     sink: &mut K,
 ) -> Status
     // What was written is a transcript of what was taken, as far as the status says.
-    ensures told { IsTold result (S.left source.old) (S.left source.new) (K.held sink.old) (K.held sink.new) }
+    ensures told { IsTold result (change_of S.left S.faults source.old source.new)
+        (change_of K.held K.faults sink.old sink.new) }
 
     // Each status has its cause.
     ensures bad_words { (result ≡ Status.BadWords) ↔ (words.now ≢ []) }
@@ -34,7 +35,8 @@ pub fn run<S: Source, K: Sink>(
 
 /// Runs a session to its end.
 fn run_session<S: Source, K: Sink>(alloc: Global, source: &mut S, sink: &mut K) -> Status
-    ensures told { IsTold result (S.left source.old) (S.left source.new) (K.held sink.old) (K.held sink.new) }
+    ensures told { IsTold result (change_of S.left S.faults source.old source.new)
+        (change_of K.held K.faults sink.old sink.new) }
     ensures good_words { result ≢ Status.BadWords }
     ensures read_fault { result ≡ Status.ReadFault → Rose (S.faults source.old) (S.faults source.new) }
     ensures write_fault { result ≡ Status.WriteFault → Rose (K.faults sink.old) (K.faults sink.new) }

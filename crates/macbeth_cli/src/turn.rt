@@ -1,12 +1,12 @@
 //! One turn of a session: a line is taken and answered, and the reply is written.
 ghost use Rattle.std.specs.Prelude.{◌≡◌, ◌≤◌, ℕ, List, false, None, Some, OnOk, IfErr};
-ghost use Rattle.line_io.specs.Outside.{Put};
+ghost use Rattle.line_io.specs.Outside.{change_of, Put};
 ghost use Rattle.session_edits.specs.Reply.{IsPrintable, reply_text, refused};
 ghost use Rattle.session_edits.specs.State.{State};
 ghost use Rattle.session_edits.specs.Answer.{Entry, Answer, line as entry_line};
 ghost use Rattle.session_edits.specs.Reading.{command_of, IsCommand};
 ghost use Rattle.macbeth_cli.specs.Transcript.{ends_session, is_quit};
-ghost use Rattle.macbeth_cli.specs.Turn.{EntryTurn, Turns, StopsWriting, written};
+ghost use Rattle.macbeth_cli.specs.Turn.{EntryTurn, Turns, StopsWriting};
 
 use crate::status::Status;
 use line_io::{Item, LineFault, Lines, Sink, Source, put_all};
@@ -31,8 +31,9 @@ pub fn take_turn<S: Source, K: Sink>(
     sink: &mut K,
 ) -> Turn
     requires { lines.old.fault ≡ None }
-    ensures { Turns lines.old lines.new (S.left source.old) (S.left source.new) (S.faults source.old) (S.faults source.new) session.old session.new
-        (written (K.held sink.old) (K.held sink.new) (K.faults sink.old) (K.faults sink.new)) result }
+    ensures { Turns lines.old lines.new (change_of S.left S.faults source.old source.new)
+        session.old session.new
+        (change_of K.held K.faults sink.old sink.new) result }
 {
     match lines.next(source) {
         Ok(Item::Line(line)) => answer_line(alloc, session, line, sink),
@@ -46,7 +47,7 @@ pub fn take_turn<S: Source, K: Sink>(
 /// Answers a line, and writes the reply.
 fn answer_line<K: Sink>(alloc: Global, session: &mut Session, line: &[u8], sink: &mut K) -> Turn
     ensures turn { EntryTurn session.old (entry_line line.now) session.new
-        (written (K.held sink.old) (K.held sink.new) (K.faults sink.old) (K.faults sink.new)) result }
+        (change_of K.held K.faults sink.old sink.new) result }
     ensures count { K.faults sink.old ≤ K.faults sink.new }
 {
     match read_command(alloc, line) {
@@ -61,7 +62,7 @@ fn answer_line<K: Sink>(alloc: Global, session: &mut Session, line: &[u8], sink:
 fn obey<K: Sink>(alloc: Global, session: &mut Session, command: &Command, sink: &mut K) -> Turn
     requires { IsCommand command.now }
     ensures turn { (bytes : List ℕ) → command_of bytes ≡ Parsed.Do command.now → EntryTurn session.old (entry_line bytes) session.new
-        (written (K.held sink.old) (K.held sink.new) (K.faults sink.old) (K.faults sink.new)) result }
+        (change_of K.held K.faults sink.old sink.new) result }
     ensures count { K.faults sink.old ≤ K.faults sink.new }
 {
     let Ok(reply) = session.apply(command) else {
@@ -86,7 +87,7 @@ fn ends_session(command: &Command) -> bool
 fn refuse<K: Sink>(alloc: Global, number: u8, sink: &mut K) -> Turn
     requires { IsPrintable (refused number) }
     ensures turn { (state : State) (entry : Entry) → Answer state entry (Some (refused number)) state → is_quit entry ≡ false → EntryTurn state entry state
-        (written (K.held sink.old) (K.held sink.new) (K.faults sink.old) (K.faults sink.new)) result }
+        (change_of K.held K.faults sink.old sink.new) result }
     ensures count { K.faults sink.old ≤ K.faults sink.new }
 {
     let detail = Detail::None;
@@ -100,7 +101,7 @@ fn refuse<K: Sink>(alloc: Global, number: u8, sink: &mut K) -> Turn
 fn write_reply<K: Sink>(alloc: Global, reply: &Reply, sink: &mut K) -> Result<(), Status>
     requires { IsPrintable reply.now }
     ensures ok { OnOk result (Put (K.held sink.old) (K.held sink.new) (reply_text reply.now)) }
-    ensures err { IfErr result (λ status. StopsWriting (written (K.held sink.old) (K.held sink.new) (K.faults sink.old) (K.faults sink.new)) (reply_text reply.now) status) }
+    ensures err { IfErr result (λ status. StopsWriting (change_of K.held K.faults sink.old sink.new) (reply_text reply.now) status) }
     ensures count { K.faults sink.old ≤ K.faults sink.new }
 {
     let Ok(text) = text(alloc, reply) else {

@@ -59,5 +59,5 @@ returns-in_default-more g c =
     let shed = Seeking-shed _ _ _ _ _ _ _ _ _ _ _ i (Seeking-no_line _ _ _ _ _ _ _ _ _ i c.in_default.ensures) c.shed-dropped.ensures in
     let same = Sheds-same _ _ _ c.shed-dropped.ensures in
     let failed = c.in_default-more.ensures.failed in
-    Seeking-read _ _ _ _ _ _ _ _ _ _ _ _ shed.0 shed.1 (same.1 ∙ c.if-self.false) (omega (arith, same.0)) failed.2 failed.1
-    c.in_default-more.ensures.count failed.0
+    Seeking-read _ _ _ _ _ _ _ _ _ _ _ _ shed.0 shed.1 (same.1 ∙ c.if-self.false) (omega (arith, same.0)) failed.1 failed.0.1
+    c.in_default-more.ensures.count failed.0.0
