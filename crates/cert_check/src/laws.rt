@@ -1,0 +1,50 @@
+//! What the definitions in the contracts amount to: functions that do nothing, whose contracts are the laws.
+
+ghost use Rattle.std.specs.Prelude.{◌≡◌, ◌↔◌};
+ghost use Rattle.frac128.specs.Problem.{IsSpanCertificate, IsFarkasCertificate};
+ghost use Rattle.cert_check.specs.Lines.{AllSay, IsVerdict, span_check, farkas_check};
+
+use crate::verdict::Verdict;
+use frac128::problem::{Cert, Problem};
+use frac128::{Frac, TooWide};
+
+/// States that the lines of a span certificate together say that it is one. It does nothing.
+pub fn span_lines(problem: &Problem, value: &Frac, cert: &Cert)
+    ensures { AllSay (span_check problem.now value.now cert.now) ↔ IsSpanCertificate problem.now cert.now value.now }
+{
+    // What the types of the problem and the value keep is told where they are read.
+    let _ = (problem.vars(), value.den());
+}
+
+/// States that the lines of a Farkas certificate together say that it is one. It does nothing.
+pub fn farkas_lines(problem: &Problem, cert: &Cert)
+    ensures { AllSay (farkas_check problem.now cert.now) ↔ IsFarkasCertificate problem.now cert.now }
+{
+    // What the type of the problem keeps is told where it is read.
+    problem.vars();
+}
+
+/// States that a check of a span certificate has one answer. It does nothing.
+pub fn one_verdict(
+    problem: &Problem,
+    value: &Frac,
+    cert: &Cert,
+    first: &Result<Verdict, TooWide>,
+    second: &Result<Verdict, TooWide>,
+)
+    requires first { IsVerdict (span_check problem.now value.now cert.now) first.now }
+    requires second { IsVerdict (span_check problem.now value.now cert.now) second.now }
+    ensures { first.now ≡ second.now }
+{}
+
+/// States that a check of a Farkas certificate has one answer. It does nothing.
+pub fn one_farkas_verdict(
+    problem: &Problem,
+    cert: &Cert,
+    first: &Result<Verdict, TooWide>,
+    second: &Result<Verdict, TooWide>,
+)
+    requires first { IsVerdict (farkas_check problem.now cert.now) first.now }
+    requires second { IsVerdict (farkas_check problem.now cert.now) second.now }
+    ensures { first.now ≡ second.now }
+{}
