@@ -3,6 +3,7 @@ pub mod Combination
 pub mod DecimalLemmas
 pub mod DigitLemmas
 pub mod EntriesLemmas
+pub mod Equality
 pub mod Euclid
 pub mod Examples
 pub mod Fits

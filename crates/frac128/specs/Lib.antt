@@ -1,6 +1,7 @@
 pub mod Checked
 pub mod Decimal
 pub mod Entries
+pub mod Equality
 pub mod Formula
 pub mod Frac
 pub mod Problem

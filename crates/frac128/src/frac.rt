@@ -4,7 +4,7 @@ ghost use Rattle.frac128.specs.Checked.{checked_sum, checked_difference, checked
 ghost use Rattle.frac128.specs.Frac.{IsReduced, fraction_sum, fraction_difference, fraction_product, fraction_quotient, lowest_terms, reciprocal};
 ghost use Rattle.frac128.specs.Range.{IsInRange};
 ghost use Rattle.integers.specs.Divisibility.{IsLowest, gcd_of};
-ghost use Rattle.integers.specs.Fraction.{SameFraction};
+ghost use Rattle.integers.specs.Fraction.{SameFraction, fraction_of};
 ghost use Rattle.std.specs.Ordering.{int_cmp};
 ghost use Rattle.std.specs.Prelude.{◌≡◌, ◌≢◌, pos, ◌*ℤ◌, ◌≤ℤ◌, ◌<ℤ◌, IfOk, OnErr, OnOk};
 
@@ -35,6 +35,11 @@ impl Model for Frac {
 }
 
 impl Frac {
+    pub const ZERO: Frac = Frac {
+        num: Number::ZERO,
+        den: Number::ONE,
+    };
+
     /// The fraction `num / den`, in lowest terms. It refuses -2^127 in either place.
     pub fn make(num: i128, den: i128) -> Result<Frac, TooWide>
         requires { den ≢ pos 0 }
@@ -49,6 +54,17 @@ impl Frac {
             Ok(Frac::reduced(num.negated(), den.negated()))
         } else {
             Ok(Frac::reduced(num, den))
+        }
+    }
+
+    /// The whole number as a fraction.
+    pub fn whole(number: i128) -> Frac
+        requires { IsInRange number }
+        ensures { result ≡ fraction_of number }
+    {
+        Frac {
+            num: Number::known(number),
+            den: Number::ONE,
         }
     }
 

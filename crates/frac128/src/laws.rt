@@ -4,7 +4,11 @@ ghost use Rattle.frac128.specs.Checked.{checked_sum, checked_difference, checked
 ghost use Rattle.frac128.specs.Text.{Writes};
 ghost use Rattle.frac128.specs.Frac.{IsReduced, fraction_sum, fraction_difference, fraction_product, fraction_quotient, lowest_terms};
 ghost use Rattle.integers.specs.Fraction.{Fraction, IsFraction, SameFraction};
-ghost use Rattle.std.specs.Prelude.{◌≡◌, ◌≢◌, ℕ, List, ℤ, pos};
+ghost use Rattle.std.specs.Bool.{Decides};
+ghost use Rattle.std.specs.Prelude.{◌≡◌, ◌≢◌, ◌↔◌, IsTrue, ℕ, List as Items, ℤ, pos};
+
+use crate::List;
+use crate::problem::{Cert, Problem, Row};
 
 /// States that a checked sum is the sum in lowest terms, exactly where the numbers that it forms are in range.
 pub fn sums_are_exact()
@@ -37,8 +41,36 @@ pub fn lowest_terms_are_unique()
     ensures unique { (f g : Fraction) → IsFraction g → IsReduced f → SameFraction f g → f ≡ lowest_terms g }
 {}
 
+/// Whether two lists are equal, which they are exactly where they are one, if that holds of their items.
+pub fn are_equal_lists<T: PartialEq>(a: &List<T>, b: &List<T>) -> bool
+    ensures { ((x y : T) → Decides (T.eq x y) (x ≡ y)) → Decides result (a.now ≡ b.now) }
+{
+    a == b
+}
+
+/// Whether two rows are equal: exactly where they are one.
+pub fn are_equal_rows(a: &Row, b: &Row) -> bool
+    ensures { IsTrue result ↔ (a.now ≡ b.now) }
+{
+    a == b
+}
+
+/// Whether two problems are equal: exactly where they are one.
+pub fn are_equal_problems(a: &Problem, b: &Problem) -> bool
+    ensures { IsTrue result ↔ (a.now ≡ b.now) }
+{
+    a == b
+}
+
+/// Whether two certificates are equal: exactly where they are one.
+pub fn are_equal_certs(a: &Cert, b: &Cert) -> bool
+    ensures { IsTrue result ↔ (a.now ≡ b.now) }
+{
+    a == b
+}
+
 /// States that bytes write one pair of numbers only. It does nothing.
 pub fn a_text_writes_one_pair()
-    ensures { (bytes : List ℕ) (n m : ℤ) (d e : ℕ)
+    ensures { (bytes : Items ℕ) (n m : ℤ) (d e : ℕ)
         → Writes bytes n d → Writes bytes m e → (n ≡ m) × (d ≡ e) }
 {}

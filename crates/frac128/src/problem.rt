@@ -1,6 +1,6 @@
 //! Linear problems in whole numbers as plain data, and the certificates that speak of them.
 
-ghost use Rattle.std.specs.Prelude.{◌≡◌, ◌<ℤ◌, List as Items, ℤ, pos, SomeIff};
+ghost use Rattle.std.specs.Prelude.{◌≡◌, ◌<ℤ◌, IfOk, List as Items, ℤ, pos, SomeIff};
 ghost use Rattle.frac128.specs.Problem.{IsProblem, IsFeasible, IsLeast, IsLowerBound, IsInfeasible, IsSpanCertificate, IsFarkasCertificate};
 ghost use Rattle.integers.specs.Fraction.{Fraction, over, SameFractions};
 
@@ -8,10 +8,11 @@ mod check;
 
 use crate::List;
 use crate::problem::check::{are_in_range, are_not_negative, are_rows};
+use std::alloc::{AllocError, Global};
 use std::marker::Model;
 
 /// One condition on a point `x`: the sum of `coefs[j] * x[j]` over all variables is at least `bound`.
-#[derive(Debug, Drop)]
+#[derive(Debug, PartialEq, Eq, Drop)]
 pub struct Row {
     /// One number for each variable.
     pub coefs: List<i128>,
@@ -29,7 +30,7 @@ pub struct Problem {
 }
 
 /// Multipliers of a problem's rows, whose sum with them shows a bound of the cost, or that no point meets all rows.
-#[derive(Debug, Drop)]
+#[derive(Debug, PartialEq, Eq, Drop)]
 pub struct Cert {
     /// What the multipliers are over.
     pub den: i128,
@@ -45,6 +46,25 @@ impl Model for Problem {
     ghost view = { λ p. record { vars = p.vars; cost = p.cost; rows = p.rows } };
 
     ghost invariant = { λ p. IsProblem (record { vars = p.vars; cost = p.cost; rows = p.rows }) };
+}
+
+impl PartialEq for Problem {
+    ghost use Rattle.frac128.specs.Equality.{is_same_problem, is_same_problem-laws};
+    ghost use Rattle.std.specs.Cmp.{partial_equiv_from_equiv};
+
+    ghost eq = { is_same_problem };
+
+    ghost laws = { partial_equiv_from_equiv is_same_problem-laws };
+
+    fn eq(&self, other: &Problem) -> bool {
+        self.vars == other.vars && self.cost == other.cost && self.rows == other.rows
+    }
+}
+
+impl Eq for Problem {
+    ghost use Rattle.frac128.specs.Equality.{is_same_problem-laws};
+
+    ghost laws = { is_same_problem-laws };
 }
 
 impl Problem {
@@ -94,6 +114,18 @@ impl Problem {
         ensures problem { IsProblem self.now }
     {
         self.rows.as_slice()
+    }
+}
+
+impl Cert {
+    /// The same certificate once more.
+    pub fn copy(&self, alloc: Global) -> Result<Cert, AllocError>
+        ensures { IfOk result (λ copy. copy ≡ self.now) }
+    {
+        Ok(Cert {
+            den: self.den,
+            on: self.on.copy(alloc)?,
+        })
     }
 }
 

@@ -52,6 +52,10 @@ same_parts a b c d low low' pb pd e =
 pub IsLowest-divided : (a b : ℤ) (g : ℕ) → 0 < g → IsGcdOf (a *ℤ pos g) (b *ℤ pos g) g → IsLowest a b
 IsLowest-divided a b g p h = AreCoprime-divided (unsigned_abs a) (unsigned_abs b) g p (subst₂ (λ m n. IsGcd m n g) (unsigned_abs-mul a (pos g)) (unsigned_abs-mul b (pos g)) h)
 
+-- a whole number over 1 is in lowest terms
+pub IsLowest-whole : (a : ℤ) → IsLowest a (pos 1)
+IsLowest-whole a d p q = dvd_antisymm q (one-dvd d)
+
 -- ---- a common divisor of a list
 
 -- the empty list has every divisor

@@ -1,0 +1,7 @@
+use Rattle.std.specs.Bool.{Decides}
+use Rattle.std.proofs.Common.{◌≡◌, sym, subst}
+use Rattle.frac128.proofs.Equality.{row_Decides}
+use Rattle.frac128.proofs.laws.are_equal_rows.Goals as goal
+
+pub returns : goal.returns
+returns c = subst (λ r. Decides r (c.args.a.now ≡ c.args.b.now)) (sym c.eq.ensures) (row_Decides c.args.a.now c.args.b.now)
