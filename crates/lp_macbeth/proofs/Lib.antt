@@ -1,0 +1,13 @@
+pub mod GapLemmas
+pub mod OrderLemmas
+pub mod CoefLemmas
+pub mod PairLemmas
+pub mod TagLemmas
+pub mod RangeLemmas
+pub mod ScaleLemmas
+pub mod LeastLemmas
+pub mod ThresholdTagLemmas
+pub mod MeetLemmas
+pub mod ThresholdLemmas
+pub mod CutLemmas
+pub mod ThresholdRowLemmas

@@ -1,0 +1,4 @@
+pub mod Gaps
+pub mod Pairs
+pub mod Rows
+pub mod Threshold

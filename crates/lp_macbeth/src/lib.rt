@@ -1,0 +1,16 @@
+//! Judgements as linear problems over the gaps between neighbouring elements.
+#![tactic(auto)]
+
+mod gap_rows;
+mod gaps;
+pub mod laws;
+mod pairs;
+mod tags;
+mod threshold;
+mod threshold_lists;
+mod threshold_tags;
+
+pub use frac128::NoMemory;
+pub use gap_rows::{problem, rows};
+pub use threshold::threshold_problem;
+pub use threshold_tags::ThresholdTag;
