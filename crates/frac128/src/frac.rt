@@ -35,11 +35,6 @@ impl Model for Frac {
 }
 
 impl Frac {
-    pub const ZERO: Frac = Frac {
-        num: Number::ZERO,
-        den: Number::ONE,
-    };
-
     /// The fraction `num / den`, in lowest terms. It refuses -2^127 in either place.
     pub fn make(num: i128, den: i128) -> Result<Frac, TooWide>
         requires { den ≢ pos 0 }

@@ -35,6 +35,12 @@ fn sums(rt: HostRuntime) -> Result<(), Fail> {
 }
 
 #[test]
+fn whole_numbers(rt: HostRuntime) {
+    let seven = Frac::whole(-7);
+    assert_eq!(rt; (seven.num(), seven.den()), (-7, 1));
+}
+
+#[test]
 fn products(rt: HostRuntime) -> Result<(), Fail> {
     let half = made(1, 2)?;
     let much = made(MOST, 2)?;

@@ -59,6 +59,15 @@ fn range(rt: HostRuntime) -> Result<(), Fail> {
 }
 
 #[test]
+fn printed_reads_back(rt: HostRuntime) -> Result<(), Fail> {
+    for text in ["-3/2", "7"] {
+        let frac = read_frac(text.as_bytes()).ok().ok_or("no fraction")?;
+        assert_eq!(rt; frac.read_printed(rt.alloc())?, Ok(frac));
+    }
+    Ok(())
+}
+
+#[test]
 fn quotients(rt: HostRuntime) -> Result<(), Fail> {
     for (text, want) in [
         ("580/7", "82.86"),

@@ -1,4 +1,4 @@
-use crate::problem::{Problem, Row};
+use crate::problem::{Cert, Problem, Row};
 use crate::{List, NoMemory};
 use std::alloc::Global;
 use std::test::Fail;
@@ -71,5 +71,19 @@ fn bound_out_of_range(rt: HostRuntime) -> Result<(), Fail> {
     let cost = vec![in alloc; 2, 5]?;
     let coefs = vec![in alloc; 1, -1]?;
     assert!(rt; !is_accepted(alloc, 2, cost, coefs, i128::MIN)?);
+    Ok(())
+}
+
+#[test]
+fn copies(rt: HostRuntime) -> Result<(), Fail> {
+    let alloc = rt.alloc();
+    let on = List::make(vec![in alloc; (0usize, 7i128), (3, 1)]?);
+    let cert = Cert { den: 2, on };
+    assert_eq!(rt; cert.copy(alloc)?, cert);
+    let other = Cert {
+        den: 2,
+        on: List::make(vec![in alloc; (0usize, 7i128)]?),
+    };
+    assert!(rt; other != cert);
     Ok(())
 }
