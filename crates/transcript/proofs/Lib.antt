@@ -1,0 +1,7 @@
+pub mod EntriesLemmas
+pub mod BlockLemmas
+pub mod FirstLemmas
+pub mod TranscriptLemmas
+pub mod TableLemmas
+pub mod ReachedLemmas
+pub mod EndLemmas

@@ -1,0 +1,10 @@
+pub mod Entry
+pub mod Rules
+pub mod Entries
+pub mod Transcript
+pub mod Table
+pub mod Shape
+pub mod Line
+pub mod Block
+pub mod Reading
+pub mod Turn
