@@ -1,7 +1,7 @@
 -- The exit status of each way to end.
 use Rattle.std.specs.Prelude.{ℕ}
-use Rattle.macbeth_cli.specs.declared.status.Status.{Status}
-use Rattle.macbeth_cli.specs.declared.status.Status.TheVariants.{Done, BadWords, ReadFault, WriteFault, NoMemory, InputLimit}
+use Rattle.transcript.specs.declared.status.Status.{Status}
+use Rattle.transcript.specs.declared.status.Status.TheVariants.{Done, BadWords, ReadFault, WriteFault, NoMemory, InputLimit}
 
 -- 0 for a run that is done; 1 is left to the system
 abbrev pub code_of : Status → ℕ

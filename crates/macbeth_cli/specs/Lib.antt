@@ -1,5 +1,3 @@
 pub mod Code
-pub mod Entries
-pub mod Transcript
-pub mod Turn
-pub mod Headline
+pub mod Session
+pub mod SessionLaw

@@ -2,19 +2,20 @@
 #![tactic(auto)]
 
 mod run;
+mod session;
 mod status;
-mod turn;
 mod words;
 
 use line_io::{StdSink, StdSource};
 use run::run;
-use status::Status;
+use status::exit_code;
 use std::io;
 use std::process::ExitCode;
+use transcript::Status;
 use words::words_of;
 
 fn main(rt: HostRuntime) -> ExitCode {
-    ExitCode::from(run_process(&rt).code())
+    ExitCode::from(exit_code(run_process(&rt)))
 }
 
 /// Runs the program on the words, the input and the output of the process.

@@ -1,5 +1,7 @@
+ghost use Rattle.std.specs.Prelude.{None, Option, List, ℕ};
+
 use super::*;
-use line_io::{MemSink, MemSource, NeverSink, NeverSource, Sink, Source};
+use line_io::{Failed, MemSink, MemSource, NeverSink, NeverSource, Sink, Source};
 use session_edits::{Command, Name, Parsed, Reply, read_command, text};
 use std::alloc::Global;
 use std::env::{Env, FillError};
@@ -207,6 +209,33 @@ fn commands(rt: HostRuntime) -> Result<(), Fail> {
 #[test]
 fn texts(rt: HostRuntime) -> Result<(), Fail> {
     assert_eq!(rt; text(rt.alloc(), &Reply::Meets)?.as_str(), "meets\n");
+    Ok(())
+}
+
+/// A sink that takes all, and counts the calls.
+#[derive(Drop)]
+struct Counting {
+    puts: u64,
+}
+
+impl Sink for Counting {
+    ghost held = { λ _. None };
+
+    ghost faults = { λ _. 0 };
+
+    fn put(&mut self, piece: &[u8]) -> Result<usize, Failed> {
+        self.puts = self.puts.saturating_add(1);
+        Ok(piece.len())
+    }
+}
+
+#[test]
+fn a_reply_is_put_at_once(rt: HostRuntime) -> Result<(), Fail> {
+    let alloc = rt.alloc();
+    let mut source = NeverSource::make(bytes_of(alloc, &[ABC, "fits c 4 2 0\n\n"])?);
+    let mut sink = Counting { puts: 0 };
+    assert_eq!(rt; run_plainly(alloc, &mut source, &mut sink), Status::Done);
+    assert_eq!(rt; sink.puts, 5);
     Ok(())
 }
 

@@ -1,9 +1,9 @@
 //! The program's words: its arguments, behind its own name.
 ghost use Rattle.std.specs.Prelude.{◌≡◌, ◌⊎◌, IfErr};
 
-use crate::status::Status;
 use std::alloc::Global;
 use std::env::{Env, FillError};
+use transcript::Status;
 
 /// A word with more bytes than this is none that the program knows.
 const WORD_ROOM: usize = 256;

@@ -120,7 +120,7 @@ AreFirst-nil ended stream = inl (refl, All-nil IsUnbroken)
 pub AreFirst-one : (ended : Bool) (stream piece rest : List ℕ) → Splits ended stream piece rest → AreFirst ended stream (piece ∷ []) rest
 AreFirst-one ended stream piece rest (unbroken, inl is) =
     inl (is ∙ sym (append_assoc (closed piece) [] rest ∙ append_assoc piece (10 ∷ []) rest), All-cons IsUnbroken piece [] unbroken (All-nil IsUnbroken))
-AreFirst-one ended stream piece rest (unbroken, inr (seen, is, some, over)) = 
+AreFirst-one ended stream piece rest (unbroken, inr (seen, is, some, over)) =
     inr (seen, over, record { front = []; last = piece; are = refl; joined = is; each = All-nil IsUnbroken; unbroken = unbroken; some = some })
 
 -- none of the pieces and the next one ends a block

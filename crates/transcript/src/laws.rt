@@ -15,8 +15,7 @@ pub fn bytes_have_one_list_of_entries()
         → (entries : List Entry) × AreEntries takes ended bytes entries }
     ensures one { (takes : List ℕ → Bool) (ended : Bool) (bytes : List ℕ) (some others : List Entry)
         → AreEntries takes ended bytes some → AreEntries takes ended bytes others → some ≡ others }
-{
-}
+{}
 
 /// States that a run that took `INPUT_LIMIT` bytes, with no accepted `quit` among them, ends with
 /// `InputLimit`, unless writing failed or memory ran out before; and that no other run ends so. It
@@ -29,5 +28,4 @@ pub fn the_input_limit_is_exact<V: Service>()
     ensures only { (first : V) (status : Status) (source sink : Change)
         → (told : IsTold V.rules first status source sink) → status ≡ Status.InputLimit
         → (length told.bytes ≡ INPUT_LIMIT) × ¬ HasQuit V.rules told.bytes }
-{
-}
+{}
