@@ -7,3 +7,4 @@ pub mod TestLemmas
 pub mod JudgedLemmas
 pub mod AmongLemmas
 pub mod Examples
+pub mod ChangeLemmas

@@ -1,7 +1,7 @@
 -- Where a pair stands in pair order, and how many pairs there are.
-use Rattle.std.proofs.Common.{◌≡◌, ℕ, zero, suc, ◌+◌, ◌-◌, ◌*◌, ◌/◌, ◌<◌, ◌≤◌, List, [], ◌∷◌, ◌++◌, length, take, map, get_or, Some, refl, sym, ap, ◌∙◌, arith, zero-add, suc-add}
+use Rattle.std.proofs.Common.{◌≡◌, ℕ, zero, suc, ◌+◌, ◌-◌, ◌*◌, ◌/◌, ◌<◌, ◌≤◌, List, [], ◌∷◌, ◌++◌, length, take, map, get_or, Some, refl, sym, ap, ap₂, ◌∙◌, arith, zero-add, suc-add}
 use Rattle.std.specs.List.{flat_map, range_with_len, slice_get}
-use Rattle.std.proofs.lemmas.List.{length-append}
+use Rattle.std.proofs.lemmas.List.{length-append, map-append, append-nil, get_or-map}
 use Rattle.std.proofs.lemmas.List.Concat.{flat_map-append, get_or-flat_map}
 use Rattle.std.proofs.lemmas.List.FromFn.{length-range_with_len, get_or-range_with_len, length-map-range_with_len, get_or-map-range_with_len}
 use Rattle.judgement_matrix.specs.Matrix.{IsPair, pairs, pairs_before, place}
@@ -22,7 +22,7 @@ take-range a zero (suc k) h = absurd (omega arith)
 take-range a (suc n) (suc k) h = ap (λ xs. a ∷ xs) (take-range (a + 1) n k (omega arith))
 
 -- a range of numbers ends with its last one
-range-more : (a n : ℕ) → range_with_len a (suc n) ≡ range_with_len a n ++ (a + n) ∷ []
+pub range-more : (a n : ℕ) → range_with_len a (suc n) ≡ range_with_len a n ++ (a + n) ∷ []
 range-more a zero = ap (λ x. x ∷ []) (omega arith)
 range-more a (suc n) =
     ap (λ xs. a ∷ xs) (range-more (a + 1) n ∙ ap (λ x. range_with_len (a + 1) n ++ x ∷ []) (omega arith))
@@ -98,3 +98,43 @@ pairs_before-row n zero h k = absurd (omega arith)
 pairs_before-row n (suc k) h l =
     let one_less : suc k - 1 ≡ k = omega arith in
     rw one_less (omega (arith, pairs_before_is n k (omega arith)))
+
+-- ---- the pair at a place stands at it
+
+-- the place of a pair
+abbrev pub place_in : ℕ → ℕ × ℕ → ℕ
+place_in n pair = place n pair.0 pair.1
+
+-- numbers in a row, and those behind them
+range-append : (a m k : ℕ) → range_with_len a m ++ range_with_len (a + m) k ≡ range_with_len a (m + k)
+range-append a zero k = ap₂ (λ b c. range_with_len b c) (omega arith) (omega arith)
+range-append a (suc m) k =
+    let size : suc m + k ≡ suc (m + k) = omega arith in
+    rw size (ap (λ xs. a ∷ xs) (ap (λ b. range_with_len (a + 1) m ++ range_with_len b k) (omega arith) ∙ range-append (a + 1) m k))
+
+-- the places of the pairs of one upper element
+row_places : (n p a m : ℕ) → p < a → map (place_in n) (map (λ q. (p, q)) (range_with_len a m)) ≡ range_with_len (pairs_before n (p - 1) + (a - p - 1)) m
+row_places n p a zero h = refl
+row_places n p a (suc m) h =
+    ap (λ xs. place n p a ∷ xs) (row_places n p (a + 1) m (omega arith) ∙ ap (λ b. range_with_len b m) (omega arith))
+
+-- the places of the first k rows are in order
+rows_places : (n k : ℕ) → map (place_in n) (flat_map (row n) (range_with_len 1 k)) ≡ range_with_len 0 (pairs_before n k)
+rows_places n zero = refl
+rows_places n (suc k) =
+    let cut = ap (λ xs. map (place_in n) (flat_map (row n) xs)) (range-more 1 k) in
+    let join = ap (map (place_in n)) (flat_map-append (row n) (range_with_len 1 k) ((1 + k) ∷ [])) in
+    let parts = map-append (place_in n) (flat_map (row n) (range_with_len 1 k)) (row n (1 + k) ++ []) in
+    let last = ap (map (place_in n)) (append-nil (row n (1 + k))) ∙ row_places n (1 + k) (1 + k + 1) (n - (1 + k)) (omega arith) in
+    let one_less : 1 + k - 1 ≡ k = omega arith in
+    let start : pairs_before n (1 + k - 1) + (1 + k + 1 - (1 + k) - 1) ≡ pairs_before n k = rw one_less (omega arith) in
+    let size : n - (1 + k) ≡ n - suc k = omega arith in
+    let from_zero : pairs_before n (1 + k - 1) + (1 + k + 1 - (1 + k) - 1) ≡ 0 + pairs_before n k = omega (arith, start) in
+    cut ∙ join ∙ parts ∙ ap₂ (λ xs ys. xs ++ ys) (rows_places n k) (last ∙ ap₂ (λ b c. range_with_len b c) from_zero size) ∙ range-append 0 (pairs_before n k) (n - suc k)
+
+-- the pair that stands at a place has this place
+pub place-at : (n i p q : ℕ) → i < length (pairs n) → get_or (pairs n) i (0, 0) ≡ (p, q) → place n p q ≡ i
+place-at n i p q h e =
+    let all : map (place_in n) (pairs n) ≡ range_with_len 0 (pairs_before n (n - 1)) = rows_places n (n - 1) in
+    let within : i < pairs_before n (n - 1) = omega (arith, length-pairs n) in
+    sym (ap (place_in n) e) ∙ sym (get_or-map (place_in n) (pairs n) i (0, 0) 0 h) ∙ ap (λ xs. get_or xs i 0) all ∙ get_or-range_with_len 0 (pairs_before n (n - 1)) i 0 within ∙ omega arith

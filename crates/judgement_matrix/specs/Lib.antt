@@ -1,5 +1,6 @@
 pub mod Range
 pub mod Matrix
+pub mod Same
 pub mod Change
 pub mod Scale
 pub mod Rows

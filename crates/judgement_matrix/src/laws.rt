@@ -1,14 +1,16 @@
 //! What the definitions in the contracts amount to: functions that do nothing, whose contracts are the laws.
 
-ghost use Rattle.std.specs.Prelude.{◌≡◌, ◌-◌, ◌≤◌, ◌↔◌, false, length, slice_get, Some, List, ℤ, pos, ◌≤ℤ◌};
+ghost use Rattle.std.specs.Prelude.{true, IsTrue, ℕ, ◌≡◌, ◌-◌, ◌≤◌, ◌↔◌, false, length, slice_get, Some, List, ℤ, pos, ◌≤ℤ◌};
 ghost use Rattle.std.specs.List.{AllByRecursion};
 ghost use Rattle.judgement_matrix.specs.declared.matrix.TheConstants.{LIMIT};
 ghost use Rattle.judgement_matrix.specs.Range.{full};
-ghost use Rattle.judgement_matrix.specs.Matrix.{IsPair, pairs, pairs_before, place, cell_at, unjudged};
+ghost use Rattle.judgement_matrix.specs.Matrix.{IsPair, pairs, pairs_before, place, cell_at, unjudged, judged, cleared};
+ghost use Rattle.judgement_matrix.specs.Same.{same_judgements};
 ghost use Rattle.judgement_matrix.specs.Scale.{IsMetInUnit};
 ghost use Rattle.judgement_matrix.specs.Rows.{RowHolds, rows, IsFit};
 
 use crate::matrix::Matrix;
+use crate::range::Range;
 use crate::tag::Fit;
 
 /// States how many elements a matrix may have. It does nothing.
@@ -31,6 +33,22 @@ pub fn number_of_pairs(size: usize)
 pub fn nothing_judged(size: usize, p: usize, q: usize)
     requires { IsPair size p q }
     ensures { cell_at (unjudged size) p q ≡ (full, false) }
+{}
+
+/// States that a judgement gives one pair its range, and every other pair keeps what it had. It does nothing.
+pub fn one_pair_judged(matrix: &Matrix, p: usize, q: usize, range: Range)
+    requires { IsPair matrix.now.size p q }
+    ensures here { cell_at (judged matrix.now p q range) p q ≡ (range, true) }
+    ensures elsewhere { (x y : ℕ) → IsPair matrix.now.size x y → ¬ ((x ≡ p) × (y ≡ q))
+        → cell_at (judged matrix.now p q range) x y ≡ cell_at matrix.now x y }
+{
+    // What a matrix keeps is told by its size.
+    prove!(matrix.size() >= 1);
+}
+
+/// States that matrices are equal by `==` exactly where their judgements are the same. It does nothing.
+pub fn equal_matrices(first: &Matrix, second: &Matrix)
+    ensures { IsTrue (same_judgements first.now second.now) ↔ (first.now ≡ second.now) }
 {}
 
 /// States that the constraints hold exactly where all rows do, in any unit of at least 0. It does nothing.

@@ -1,20 +1,24 @@
 //! Matrices of judgements.
-ghost use Rattle.std.specs.Prelude.{◌≡◌, ℕ, true, ◌-◌, ◌<◌, ◌≤◌, false, length, IfOk};
+ghost use Rattle.std.specs.Prelude.{◌≡◌, ℕ, true, ◌-◌, ◌<◌, ◌≤◌, false, length, IfOk, OnOk, OnErr, ◌+◌};
 ghost use Rattle.judgement_matrix.specs.Range.{IsRange, full};
-ghost use Rattle.judgement_matrix.specs.Matrix.{IsPair, pairs, pairs_before, place, cell_at, unjudged, judged};
+ghost use Rattle.judgement_matrix.specs.Matrix.{IsMatrix, IsPair, pairs, pairs_before, place, cell_at, unjudged, judged, cleared};
+ghost use Rattle.judgement_matrix.specs.Change.{grown_from, grown, grown_cell, without_from, without};
+ghost use Rattle.std.specs.Cmp.{partial_equiv_from_equiv};
+ghost use Rattle.judgement_matrix.specs.Same.{same_judgements, same_judgements_are_equivalent};
 ghost use Rattle.judgement_matrix.specs.declared.matrix.TheConstants.{LIMIT};
 
 use crate::pairs::Pairs;
 use crate::range::Range;
 pub use std::alloc::AllocError as NoMemory;
 use std::alloc::Global;
+use std::cmp::Ordering;
 use std::marker::Model;
 
 /// The most elements of a matrix.
 pub const LIMIT: usize = 24;
 
 /// The judgements of the pairs of 1 to 24 elements.
-#[derive(Drop)]
+#[derive(Debug, Drop)]
 pub struct Matrix {
     size: u8,
     cells: Vec<(Range, bool)>,
@@ -52,6 +56,41 @@ fn place_of(size: usize, p: usize, q: usize) -> usize
     above * size - above * p / 2 + (q - p - 1)
 }
 
+// Where element `q` of one more than `n` elements was before element `n` was put in.
+fn grown_from(n: usize, q: usize) -> Option<usize>
+    ensures { result ≡ grown_from n q }
+{
+    match q.cmp(&n) {
+        Ordering::Less => Some(q),
+        Ordering::Equal => None,
+        Ordering::Greater => Some(q - 1),
+    }
+}
+
+// Where element `q` was before element `p` went.
+fn without_from(p: usize, q: usize) -> usize
+    requires { q < 65536 }
+    ensures { result ≡ without_from p q }
+{
+    if q < p { q } else { q + 1 }
+}
+
+// Moves the cells of the pairs that are left to their places, and drops the rest.
+fn drop_element(cells: &mut Vec<(Range, bool)>, size: u8, p: usize)
+    requires least { 2 ≤ size }
+    requires most { size ≤ LIMIT }
+    requires each { length cells.old.items ≡ length (pairs size) }
+    ensures { cells.new.items ≡ (without (record { size = size; cells = cells.old.items }) p).cells }
+{
+    let mut place = 0;
+    for (x, y) in Pairs::of(size - 1) {
+        let from = place_of(usize::from(size), without_from(p, usize::from(x)), without_from(p, usize::from(y)));
+        cells[place] = cells[from];
+        place += 1;
+    }
+    cells.truncate(place);
+}
+
 impl Matrix {
     /// A matrix of `n` elements in which nothing is judged.
     pub fn new(alloc: Global, n: usize) -> Result<Matrix, NoMemory>
@@ -69,6 +108,7 @@ impl Matrix {
     /// The number of elements.
     pub fn size(&self) -> usize
         ensures value { result ≡ self.now.size }
+        ensures matrix { IsMatrix self.now }
         ensures least { 1 ≤ result }
         ensures most { result ≤ LIMIT }
     {
@@ -97,14 +137,69 @@ impl Matrix {
         self.cells[place] = (range, true);
     }
 
-    // Law: a judgement gives one pair its range, and every other pair keeps what it had.
-    fn one_pair_judged(&self, p: usize, q: usize, range: Range)
-        requires { IsPair self.now.size p q }
-        ensures here { cell_at (judged self.now p q range) p q ≡ (range, true) }
-        ensures elsewhere { (x y : ℕ) → IsPair self.now.size x y → ¬ ((x ≡ p) × (y ≡ q))
-            → cell_at (judged self.now p q range) x y ≡ cell_at self.now x y }
+    /// Takes back what was judged of the pair of elements `p` and `q`, which count from 1.
+    pub fn clear(&mut self, p: usize, q: usize)
+        requires { IsPair self.old.size p q }
+        ensures { self.new ≡ cleared self.old p q }
     {
-        let _ = &self.size;
+        let place = place_of(self.size(), p, q);
+        self.cells[place] = (Range::full(), false);
+    }
+
+    /// Puts a new element just above the last one; its pairs are not judged.
+    pub fn grow(&mut self) -> Result<(), NoMemory>
+        requires { self.old.size < LIMIT }
+        ensures ok { OnOk result (self.new ≡ grown self.old) }
+        ensures err { OnErr result (self.new ≡ self.old) }
+    {
+        let alloc = *self.cells.allocator();
+        self.cells = self.grown_cells(alloc)?;
+        self.size += 1;
+        Ok(())
+    }
+
+    // The cells of a matrix with a new element just above the last one.
+    fn grown_cells(&self, alloc: Global) -> Result<Vec<(Range, bool)>, NoMemory>
+        requires { self.now.size < LIMIT }
+        ensures { IfOk result (λ cells. cells.items ≡ (grown self.now).cells) }
+    {
+        let mut cells = Vec::new(alloc);
+        for (p, q) in Pairs::of(self.size() as u8 + 1) {
+            cells.push(self.grown_cell(usize::from(p), usize::from(q)))?;
+        }
+        Ok(cells)
+    }
+
+    // The cell of a pair of which one element may be the new one.
+    fn grown_cell(&self, p: usize, q: usize) -> (Range, bool)
+        requires { IsPair (self.now.size + 1) p q }
+        ensures { result ≡ grown_cell self.now (p, q) }
+    {
+        let size = self.size();
+        match (grown_from(size, p), grown_from(size, q)) {
+            (Some(p), Some(q)) => self.get(p, q),
+            _ => (Range::full(), false),
+        }
+    }
+
+    /// Takes element `p`, which counts from 1, and its pairs out.
+    pub fn remove(&mut self, p: usize)
+        requires element { (1 ≤ p) × (p ≤ self.old.size) }
+        requires another { 2 ≤ self.old.size }
+        ensures { self.new ≡ without self.old p }
+    {
+        drop_element(&mut self.cells, self.size, p);
+        self.size -= 1;
+    }
+
+    /// An equal matrix with memory of its own.
+    pub fn copy(&self) -> Result<Matrix, NoMemory>
+        ensures { IfOk result (λ matrix. matrix ≡ self.now) }
+    {
+        Ok(Matrix {
+            size: self.size,
+            cells: self.cells.clone()?,
+        })
     }
 
     // The pairs of elements.
@@ -113,4 +208,18 @@ impl Matrix {
     {
         Pairs::of(self.size)
     }
+}
+
+impl PartialEq for Matrix {
+    ghost eq = { same_judgements };
+
+    ghost laws = { partial_equiv_from_equiv same_judgements_are_equivalent };
+
+    fn eq(&self, other: &Matrix) -> bool {
+        self.size == other.size && self.cells == other.cells
+    }
+}
+
+impl Eq for Matrix {
+    ghost laws = { same_judgements_are_equivalent };
 }
