@@ -7,6 +7,7 @@ pub mod Equality
 pub mod Euclid
 pub mod Examples
 pub mod Fits
+pub mod FormulaLemmas
 pub mod NearestLaw
 pub mod Numbers
 pub mod PrintingLemmas

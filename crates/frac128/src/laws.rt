@@ -3,12 +3,12 @@
 ghost use Rattle.frac128.specs.Checked.{checked_sum, checked_difference, checked_product, checked_quotient, IsExact, SumFits, DifferenceFits, ProductFits, QuotientFits};
 ghost use Rattle.frac128.specs.Text.{Writes};
 ghost use Rattle.frac128.specs.Frac.{IsReduced, fraction_sum, fraction_difference, fraction_product, fraction_quotient, lowest_terms};
-ghost use Rattle.integers.specs.Fraction.{Fraction, IsFraction, SameFraction};
+ghost use Rattle.integers.specs.Fraction.{AreFractions, Fraction, IsFraction, SameFraction};
 ghost use Rattle.std.specs.Bool.{Decides};
-ghost use Rattle.std.specs.Prelude.{◌≡◌, ◌≢◌, ◌↔◌, IsTrue, ℕ, List as Items, ℤ, pos};
+ghost use Rattle.std.specs.Prelude.{◌≡◌, ◌≢◌, ◌↔◌, IsTrue, All, ℕ, List as Items, ℤ, pos};
 
-use crate::List;
 use crate::problem::{Cert, Problem, Row};
+use crate::{Frac, List};
 
 /// States that a checked sum is the sum in lowest terms, exactly where the numbers that it forms are in range.
 pub fn sums_are_exact()
@@ -74,3 +74,14 @@ pub fn a_text_writes_one_pair()
     ensures { (bytes : Items ℕ) (n m : ℤ) (d e : ℕ)
         → Writes bytes n d → Writes bytes m e → (n ≡ m) × (d ≡ e) }
 {}
+
+/// States what the type of fractions keeps, of each of a list: a positive denominator, and lowest terms. It only reads them, since
+/// what a type keeps is told where it is read.
+pub fn are_fractions(fractions: &[Frac])
+    ensures positive { AreFractions fractions.now }
+    ensures lowest { All IsReduced fractions.now }
+{
+    for fraction in fractions {
+        let _ = fraction.den();
+    }
+}

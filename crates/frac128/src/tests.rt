@@ -66,8 +66,14 @@ fn formulas(rt: HostRuntime) -> Result<(), Fail> {
     let half = made(1, 2)?;
     let third = made(1, 3)?;
     let most = made(MOST, 1)?;
-    assert_eq!(rt; parts(determinant(&half, &third, &third, &half)), Ok((5, 36)));
-    assert_eq!(rt; parts(determinant(&half, &most, &most, &half)), Err(TooWide));
+    assert_eq!(rt;
+        parts(determinant(&half, &third, &third, &half)),
+        Ok((5, 36))
+    );
+    assert_eq!(rt;
+        parts(determinant(&half, &most, &most, &half)),
+        Err(TooWide)
+    );
     Ok(())
 }
 
