@@ -8,3 +8,5 @@ pub mod Line
 pub mod Block
 pub mod Reading
 pub mod Turn
+pub mod Tally
+pub mod TallyLaw

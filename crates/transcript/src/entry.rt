@@ -44,6 +44,7 @@ impl Model for Entry {
 
 /// An entry as its service looks at it. Lines are without their newline and without a carriage
 /// return before that.
+#[derive(Clone, Copy, Debug, PartialEq, Eq)]
 pub enum Shape<'a> {
     /// A line that is too long.
     TooLong,
