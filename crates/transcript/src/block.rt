@@ -1,5 +1,6 @@
 // The lines of a block.
-ghost use Rattle.std.specs.Prelude.{◌≡◌, ◌≤◌, None, IfOk, codes, if◌then◌else◌};
+ghost use Rattle.std.specs.Prelude.{◌≡◌, ◌≤◌, None, IfOk, OnOk, codes, max, vec_len, vec_capacity, if◌then◌else◌};
+ghost use Rattle.transcript.specs.declared.block.TheConstants.{BLOCK_LIMIT};
 ghost use Rattle.std.specs.Str.{bytes_eq};
 ghost use Rattle.line_io.specs.Outside.{change_of};
 ghost use Rattle.line_io.specs.declared.lines.TheConstants.{INPUT_LIMIT};
@@ -66,7 +67,24 @@ fn copy_line(block: &mut Vec<u8>, line: &[u8], fits: bool) -> Result<bool, NoMem
     if !fits || line.len() >= BLOCK_LIMIT || block.len() > BLOCK_LIMIT - 1 - line.len() {
         return Ok(false);
     }
+    make_room(block, block.len() + line.len() + 1)?;
     block.extend_from_slice(line)?;
     block.push(b'\n')?;
     Ok(true)
+}
+
+/// Makes room for so many bytes in all: where it must grow twice as much as there was, and never more
+/// than the limit.
+fn make_room(block: &mut Vec<u8>, needed: usize) -> Result<(), NoMemory>
+    requires longer { vec_len block.old ≤ needed }
+    requires within { needed ≤ BLOCK_LIMIT }
+    ensures items { block.new.items ≡ block.old.items }
+    ensures capacity { vec_capacity block.new ≤ max (vec_capacity block.old) BLOCK_LIMIT }
+    ensures room { OnOk result (needed ≤ vec_capacity block.new) }
+{
+    if needed <= block.capacity() {
+        return Ok(());
+    }
+    let room = block.capacity().saturating_mul(2).max(needed).min(BLOCK_LIMIT);
+    block.reserve_exact(room - block.len())
 }
