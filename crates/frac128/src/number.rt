@@ -73,6 +73,9 @@ impl Number {
     pub fn plus(self, other: Number) -> Result<Number, TooWide>
         ensures { OkIff result (IsInRange (self +ℤ other)) (self +ℤ other) }
     {
+        if let (Ok(left), Ok(right)) = (i64::try_from(self.value), i64::try_from(other.value)) {
+            return Number::make(sum_of_words(left, right));
+        }
         match self.value.checked_add(other.value) {
             Some(sum) => Number::make(sum),
             None => Err(TooWide),
@@ -83,6 +86,9 @@ impl Number {
     pub fn minus(self, other: Number) -> Result<Number, TooWide>
         ensures { OkIff result (IsInRange (self -ℤ other)) (self -ℤ other) }
     {
+        if let (Ok(left), Ok(right)) = (i64::try_from(self.value), i64::try_from(other.value)) {
+            return Number::make(difference_of_words(left, right));
+        }
         match self.value.checked_sub(other.value) {
             Some(difference) => Number::make(difference),
             None => Err(TooWide),
@@ -163,8 +169,22 @@ impl Number {
     }
 }
 
-// The product, which no two words take out of range.
-fn product_of_words(a: i64, b: i64) -> i128
+// The sum, which no two words take out of range.
+fn sum_of_words(a: i64, b: i64) -> i128
+    ensures { result ≡ a +ℤ b }
+{
+    i128::from(a) + i128::from(b)
+}
+
+// The difference, which no two words take out of range.
+fn difference_of_words(a: i64, b: i64) -> i128
+    ensures { result ≡ a -ℤ b }
+{
+    i128::from(a) - i128::from(b)
+}
+
+/// The product, which no two words take out of range.
+pub(crate) fn product_of_words(a: i64, b: i64) -> i128
     ensures { result ≡ a *ℤ b }
 {
     i128::from(a) * i128::from(b)

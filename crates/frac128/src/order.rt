@@ -1,10 +1,10 @@
-//! The order of fractions by Euclid's steps, which form no product.
+//! The order of fractions: by products of words where all numbers are such, else by Euclid's steps, which form no product.
 
 ghost use Rattle.frac128.specs.Range.{IsInRange};
 ghost use Rattle.std.specs.Ordering.{int_cmp};
 ghost use Rattle.std.specs.Prelude.{◌≡◌, pos, ◌*ℤ◌, ◌<ℤ◌};
 
-use crate::number::Number;
+use crate::number::{Number, product_of_words};
 use std::cmp::Ordering;
 
 /// How `a / b` compares with `c / d`, for denominators of at least 1 and numbers within -(2^127 - 1) to 2^127 - 1.
@@ -23,8 +23,20 @@ pub fn compare(a: i128, b: i128, c: i128, d: i128) -> Ordering
 }
 
 /// The same for numbers whose type keeps the range.
-// Where the whole parts agree, r / b and s / d are left, which compare as d / s and b / r do.
 pub fn compare_numbers(a: Number, b: Number, c: Number, d: Number) -> Ordering
+    requires { (pos 0 <ℤ b) × (pos 0 <ℤ d) }
+    ensures { result ≡ int_cmp (a *ℤ d) (c *ℤ b) }
+{
+    if let (Ok(left), Ok(under_right)) = (i64::try_from(a.get()), i64::try_from(d.get())) {
+        if let (Ok(right), Ok(under_left)) = (i64::try_from(c.get()), i64::try_from(b.get())) {
+            return product_of_words(left, under_right).cmp(&product_of_words(right, under_left));
+        }
+    }
+    compare_by_steps(a, b, c, d)
+}
+
+// The same by Euclid's steps. Where the whole parts agree, r / b and s / d are left, which compare as d / s and b / r do.
+fn compare_by_steps(a: Number, b: Number, c: Number, d: Number) -> Ordering
     requires { (pos 0 <ℤ b) × (pos 0 <ℤ d) }
     ensures { result ≡ int_cmp (a *ℤ d) (c *ℤ b) }
 {

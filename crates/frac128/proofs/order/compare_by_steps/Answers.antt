@@ -1,8 +1,8 @@
 use Rattle.std.specs.Ordering.{int_cmp}
 use Rattle.std.proofs.Common.{rules, ◌≡◌, ◌≢◌, pos, ◌+ℤ◌, ◌*ℤ◌, ◌<ℤ◌, ap, ◌∙◌}
 use Rattle.frac128.proofs.Euclid.{turned, floors_decide, left_decides, right_decides}
-use Rattle.frac128.proofs.order.compare_numbers.Goals.{then-eq-via-then-eq, then-eq-via-else-eq+then-eq-2}
-use Rattle.frac128.proofs.order.compare_numbers.Goals as goal
+use Rattle.frac128.proofs.order.compare_by_steps.Goals.{then-eq-via-then-eq, then-eq-via-else-eq+then-eq-2}
+use Rattle.frac128.proofs.order.compare_by_steps.Goals as goal
 
 -- the whole parts differ
 pub returns-then-ne : goal.returns-then-ne
