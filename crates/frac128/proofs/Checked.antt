@@ -3,17 +3,17 @@ use Rattle.std.specs.List.{list_all, AllByRecursion}
 use Rattle.std.proofs.lemmas.Bool.Decides.{nat_tests}
 use Rattle.std.proofs.Common.{◌≡◌, ◌≢◌, ◌↔◌, Bool, true, false, ◌&&◌, List, [], ◌∷◌, Result, Ok, Err, ℤ, zero, suc, pos, negsuc, ◌*ℤ◌, ◌<ℤ◌, refl, sym, ap, subst, ◌∙◌, arith}
 use Rattle.integers.specs.Divisibility.{gcd_of}
-use Rattle.integers.specs.Fraction.{Fraction, IsFraction, SameFraction}
+use Rattle.integers.specs.Fraction.{Fraction, IsFraction, SameFraction, fraction_sum, fraction_difference, fraction_product, fraction_quotient}
 use Rattle.integers.proofs.Divisibility.{IsGcdOf-gcd_of, gcd_of_nonneg, same_parts}
 use Rattle.integers.proofs.Fractions.{SameFraction-trans}
 use Rattle.integers.proofs.Laws.{lin}
 use Rattle.integers.proofs.Order.{mul_pos}
 use Rattle.frac128.specs.Range.{IsInRange, is_in_range}
-use Rattle.frac128.specs.Frac.{IsReduced, lowest_terms, fraction_sum, fraction_difference, fraction_product, fraction_quotient, reciprocal}
-use Rattle.frac128.specs.Checked.{AreInRange, sum_numbers, difference_numbers, product_numbers, SumFits, DifferenceFits, ProductFits, QuotientFits, IsExact, checked, checked_sum, checked_difference, checked_product, checked_quotient}
+use Rattle.frac128.specs.Frac.{IsReduced, lowest_terms, opposite, reciprocal}
+use Rattle.frac128.specs.Checked.{AreInRange, sum_numbers, product_numbers, SumFits, DifferenceFits, ProductFits, QuotientFits, IsExact, checked, checked_sum, checked_difference, checked_product, checked_quotient}
 use Rattle.frac128.specs.declared.number.TooWide.{TooWide}
 use Rattle.frac128.proofs.Numbers.{lowest_parts}
-use Rattle.frac128.proofs.Fits.{quotient_value}
+use Rattle.frac128.proofs.Fits.{difference_value, quotient_value}
 
 -- ---- lowest terms
 
@@ -76,15 +76,6 @@ pub checked_sum-exact : (f g : Fraction) → IsFraction f → IsFraction g → I
 unfolding checked_sum
 checked_sum-exact f g pf pg = checked-exact (sum_numbers (gcd_of f.den g.den) f g) (fraction_sum f g) (mul_pos f.den g.den pf pg)
 
--- the difference
-pub checked_difference-is : (f g : Fraction) (r : Result Fraction TooWide) → IsFraction f → IsFraction g → IsExact r (DifferenceFits f g) (fraction_difference f g) → r ≡ checked_difference f g
-unfolding checked_difference
-checked_difference-is f g r pf pg h = checked-is (difference_numbers (gcd_of f.den g.den) f g) (fraction_difference f g) r (mul_pos f.den g.den pf pg) h
-
-pub checked_difference-exact : (f g : Fraction) → IsFraction f → IsFraction g → IsExact (checked_difference f g) (DifferenceFits f g) (fraction_difference f g)
-unfolding checked_difference
-checked_difference-exact f g pf pg = checked-exact (difference_numbers (gcd_of f.den g.den) f g) (fraction_difference f g) (mul_pos f.den g.den pf pg)
-
 -- the product
 pub checked_product-is : (f g : Fraction) (r : Result Fraction TooWide) → IsFraction f → IsFraction g → IsExact r (ProductFits f g) (fraction_product f g) → r ≡ checked_product f g
 unfolding checked_product
@@ -94,7 +85,26 @@ pub checked_product-exact : (f g : Fraction) → IsFraction f → IsFraction g �
 unfolding checked_product
 checked_product-exact f g pf pg = checked-exact (product_numbers (gcd_of f.num g.den) (gcd_of g.num f.den) f g) (fraction_product f g) (mul_pos f.den g.den pf pg)
 
--- a product with the reciprocal is the quotient
+-- ---- differences and quotients
+
+-- the difference is the sum with the opposite
+pub sum_with_opposite : (f g h : Fraction) (r : Result Fraction TooWide) → h ≡ opposite g → r ≡ checked_sum f h → r ≡ checked_difference f g
+unfolding checked_difference
+sum_with_opposite f g h r e s = s ∙ ap (checked_sum f) e
+
+pub exact_difference : (f g : Fraction) (r : Result Fraction TooWide) → IsExact r (DifferenceFits f g) (fraction_sum f (opposite g)) → IsExact r (DifferenceFits f g) (fraction_difference f g)
+exact_difference f g (Ok r) h = (h.0, h.1, difference_value f.num f.den g.num g.den r.num r.den h.2)
+exact_difference f g (Err e) h = h
+
+pub checked_difference-exact : (f g : Fraction) → IsFraction f → IsFraction g → IsExact (checked_difference f g) (DifferenceFits f g) (fraction_difference f g)
+unfolding checked_difference
+checked_difference-exact f g pf pg = exact_difference f g (checked_sum f (opposite g)) (checked_sum-exact f (opposite g) pf pg)
+
+-- the quotient is the product with the reciprocal
+pub product_with_reciprocal : (f g h : Fraction) (r : Result Fraction TooWide) → h ≡ reciprocal g.num g.den → r ≡ checked_product f h → r ≡ checked_quotient f g
+unfolding checked_quotient
+product_with_reciprocal f g h r e s = s ∙ ap (checked_product f) e
+
 pub exact_quotient : (f g : Fraction) (r : Result Fraction TooWide) → IsExact r (QuotientFits f g) (fraction_product f (reciprocal g.num g.den)) → IsExact r (QuotientFits f g) (fraction_quotient f g)
 exact_quotient f g (Ok r) h = (h.0, h.1, quotient_value f.num f.den g.num g.den r.num r.den h.2)
 exact_quotient f g (Err e) h = h
@@ -109,4 +119,5 @@ reciprocal-den g n = of_num g.num n
     of_num (negsuc k) n = omega (arith, lin)
 
 pub checked_quotient-exact : (f g : Fraction) → IsFraction f → g.num ≢ pos 0 → IsExact (checked_quotient f g) (QuotientFits f g) (fraction_quotient f g)
-checked_quotient-exact f g pf n = exact_quotient f g (checked_quotient f g) (checked_product-exact f (reciprocal g.num g.den) pf (reciprocal-den g n))
+unfolding checked_quotient
+checked_quotient-exact f g pf n = exact_quotient f g (checked_product f (reciprocal g.num g.den)) (checked_product-exact f (reciprocal g.num g.den) pf (reciprocal-den g n))

@@ -30,14 +30,6 @@ pub bound-push : (p : ProblemData) (on : List (ℕ × ℤ)) (e : ℕ × ℤ) →
 bound-push p [] e = omega (arith, lin)
 bound-push p (f ∷ on) e = let ih = bound-push p on e in omega (arith, lin)
 
--- the step of a loop: the coefficients, with the row at the place i
-pub coefs-take_more : (p : ProblemData) (on : List (ℕ × ℤ)) (i : ℕ) (d : ℕ × ℤ) → i < length on → (combination p (take (i + 1) on)).coefs ≡ add (combination p (take i on)).coefs (scale (get_or on i d).1 (row_at p.rows (get_or on i d).0).coefs)
-coefs-take_more p on i d h = ap (λ (l : List (ℕ × ℤ)). (combination p l).coefs) (take_more on i d h) ∙ coefs-push p (take i on) (get_or on i d)
-
--- the step of a loop: the bound, with the row at the place i
-pub bound-take_more : (p : ProblemData) (on : List (ℕ × ℤ)) (i : ℕ) (d : ℕ × ℤ) → i < length on → (combination p (take (i + 1) on)).bound ≡ (combination p (take i on)).bound +ℤ (get_or on i d).1 *ℤ (row_at p.rows (get_or on i d).0).bound
-bound-take_more p on i d h = ap (λ (l : List (ℕ × ℤ)). (combination p l).bound) (take_more on i d h) ∙ bound-push p (take i on) (get_or on i d)
-
 -- ---- place by place
 
 -- the numbers at a place of each row

@@ -13,10 +13,6 @@ use Rattle.integers.proofs.Divisibility.{pos-unsigned_abs, unsigned_abs-neg}
 use Rattle.integers.proofs.Order.{le_of_lt}
 use Rattle.frac128.specs.Decimal.{IsNearest, IsDecimal, IsHalfUp, sign_text, padded_digits, pointed_text}
 
--- a quotient is below b where b times the remainder covers it
-pub below_from_products : (a b d r : ℕ) → 0 < b → a * d ≤ b * r → r < d → a < b
-below_from_products a b d r some h l = ⊎_elim (λ below. below) (λ above. absurd (omega (arith, mul-le-mul_right d above, mul-le-mul_left b l))) (cases_lt a b)
-
 -- a power of ten more
 pub ten_more : (i : ℕ) → 10 ^ (i + 1) ≡ 10 * 10 ^ i
 ten_more i = omega (arith, pow_more 10 i)

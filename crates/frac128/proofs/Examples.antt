@@ -1,8 +1,12 @@
 -- The definitions at small problems: a least point with the certificate of its cost, and a problem that no point meets.
 use Rattle.std.specs.Int.Signed.{<ℤ_irrefl, le_z_yes, lt_z_yes}
-use Rattle.std.proofs.Common.{All, lit<, inl, inr, ℕ, ◌<◌, List, [], ◌∷◌, ℤ, pos, negsuc, ◌+ℤ◌, ◌*ℤ◌, ◌≤ℤ◌, ◌<ℤ◌, refl, arith}
+use Rattle.std.proofs.Common.{◌≡◌, Ok, Err, All, lit<, inl, inr, ℕ, ◌<◌, List, [], ◌∷◌, ℤ, pos, negsuc, ◌+ℤ◌, ◌*ℤ◌, ◌≤ℤ◌, ◌<ℤ◌, refl, arith}
 use Rattle.std.proofs.lemmas.List.Elements.{All-nil, All-cons, All-head, All-tail}
+use Rattle.integers.specs.Divisibility.{gcd_of}
+use Rattle.integers.specs.Fraction.{fraction_of}
 use Rattle.integers.specs.Lexicographic.{LexLess}
+use Rattle.frac128.specs.Checked.{checked_sum, checked_difference, checked_product, checked_quotient}
+use Rattle.frac128.specs.Frac.{lowest_terms}
 use Rattle.integers.proofs.Ring.{con, ◌⊕◌, ◌⊗◌, ◌≼◌, ◌≺◌, ◌✶◌, ◌⇐◌, combine2, combine3}
 use Rattle.frac128.specs.Problem.{ProblemData, IsRow, IsProblem, IsRowMetBy, IsFeasible, IsLeast, cost_and_numbers, AreRowMultipliers, IsSpanCertificate, IsFarkasCertificate}
 use Rattle.frac128.specs.declared.problem.Row.{Row}
@@ -94,3 +98,25 @@ refuted = record {
   none_above = All-cons (λ c. c ≤ℤ pos 0) (negsuc 0) [] (le_z_yes tt) (All-nil (λ c. c ≤ℤ pos 0));
   bound_above = lt_z_yes tt;
 }
+
+-- ---- checked arithmetic
+
+-- 1/6 + 1/3 = 1/2
+sixth_and_third : checked_sum (record { num = pos 1; den = pos 6 }) (record { num = pos 1; den = pos 3 }) ≡ Ok (record { num = pos 1; den = pos 2 })
+unfolding checked_sum lowest_terms gcd_of
+sixth_and_third = refl
+
+-- 1/2 - 2/3 = -1/6
+half_less_two_thirds : checked_difference (record { num = pos 1; den = pos 2 }) (record { num = pos 2; den = pos 3 }) ≡ Ok (record { num = negsuc 0; den = pos 6 })
+unfolding checked_difference checked_sum lowest_terms gcd_of
+half_less_two_thirds = refl
+
+-- (2/3) / (-4/5) = -5/6
+two_thirds_by : checked_quotient (record { num = pos 2; den = pos 3 }) (record { num = negsuc 3; den = pos 5 }) ≡ Ok (record { num = negsuc 4; den = pos 6 })
+unfolding checked_quotient checked_product lowest_terms gcd_of
+two_thirds_by = refl
+
+-- the largest number and 1 make none in range
+too_wide : checked_sum (fraction_of (pos 170141183460469231731687303715884105727)) (fraction_of (pos 1)) ≡ Err (record {})
+unfolding checked_sum lowest_terms gcd_of
+too_wide = refl

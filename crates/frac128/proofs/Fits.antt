@@ -4,12 +4,12 @@ use Rattle.std.proofs.lemmas.Int.{unsigned_abs-mul}
 use Rattle.std.proofs.lemmas.Nat.Gcd.{dvd_trans, same_from_IsGcd}
 use Rattle.std.proofs.Common.{◌≡◌, ◌↔◌, ℕ, ◌*◌, ℤ, pos, negsuc, neg_ℤ, ◌+ℤ◌, ◌-ℤ◌, ◌*ℤ◌, ◌<ℤ◌, int_div, unsigned_abs, [], ◌∷◌, refl, sym, subst, subst₂}
 use Rattle.integers.specs.Divisibility.{AreCoprime, IsLowest, IsGcdOf, gcd_of}
-use Rattle.integers.specs.Fraction.{Fraction, SameFraction}
+use Rattle.integers.specs.Fraction.{Fraction, SameFraction, fraction_product}
 use Rattle.integers.proofs.Divisibility.{IsGcdOf-gcd_of, unsigned_abs-neg, quotient_whole, quotient_positive, quotient_divides}
 use Rattle.integers.proofs.Gcd.{AreCoprime_comm, dvd_of_coprime}
 use Rattle.integers.proofs.Order.{le_of_lt, mul_pos}
 use Rattle.integers.proofs.Ring.{con, neg, ◌⊕◌, ◌⊖◌, ◌⊗◌, ◌≗◌, ◌✶◌, ◌⇐◌, combine6, combine9, combine10}
-use Rattle.frac128.specs.Frac.{IsReduced, fraction_product, reciprocal}
+use Rattle.frac128.specs.Frac.{IsReduced, opposite, reciprocal}
 use Rattle.frac128.proofs.Numbers.{lowest_parts}
 
 -- ---- the values
@@ -18,9 +18,9 @@ use Rattle.frac128.proofs.Numbers.{lowest_parts}
 pub sum_value : (a b c d g l r n m : ℤ) → b ≡ l *ℤ g → d ≡ r *ℤ g → n *ℤ (b *ℤ r) ≡ (a *ℤ r +ℤ c *ℤ l) *ℤ m → n *ℤ (b *ℤ d) ≡ (a *ℤ d +ℤ c *ℤ b) *ℤ m
 sum_value = combine9 (λ a b c d g l r n m. n ⊗ (b ⊗ d) ≗ (a ⊗ d ⊕ c ⊗ b) ⊗ m ⇐ neg (c ⊗ m) ✶ (b ≗ l ⊗ g) ∷ (n ⊗ b ⊖ a ⊗ m) ✶ (d ≗ r ⊗ g) ∷ g ✶ (n ⊗ (b ⊗ r) ≗ (a ⊗ r ⊕ c ⊗ l) ⊗ m) ∷ []) refl
 
--- a difference n/m of a/b and c/d, where l and r are b and d divided by g
-pub difference_value : (a b c d g l r n m : ℤ) → b ≡ l *ℤ g → d ≡ r *ℤ g → n *ℤ (b *ℤ r) ≡ (a *ℤ r -ℤ c *ℤ l) *ℤ m → n *ℤ (b *ℤ d) ≡ (a *ℤ d -ℤ c *ℤ b) *ℤ m
-difference_value = combine9 (λ a b c d g l r n m. n ⊗ (b ⊗ d) ≗ (a ⊗ d ⊖ c ⊗ b) ⊗ m ⇐ (c ⊗ m) ✶ (b ≗ l ⊗ g) ∷ (n ⊗ b ⊖ a ⊗ m) ✶ (d ≗ r ⊗ g) ∷ g ✶ (n ⊗ (b ⊗ r) ≗ (a ⊗ r ⊖ c ⊗ l) ⊗ m) ∷ []) refl
+-- a sum with the opposite of c/d is the difference
+pub difference_value : (a b c d n m : ℤ) → n *ℤ (b *ℤ d) ≡ (a *ℤ d +ℤ neg_ℤ c *ℤ b) *ℤ m → n *ℤ (b *ℤ d) ≡ (a *ℤ d -ℤ c *ℤ b) *ℤ m
+difference_value = combine6 (λ a b c d n m. n ⊗ (b ⊗ d) ≗ (a ⊗ d ⊖ c ⊗ b) ⊗ m ⇐ con (pos 1) ✶ (n ⊗ (b ⊗ d) ≗ (a ⊗ d ⊕ neg c ⊗ b) ⊗ m) ∷ []) refl
 
 -- a product of a/b and c/d, where p and s are a and d divided by k, and q and r are c and b divided by l
 pub product_value : (a b c d k l p q r s : ℤ) → a ≡ p *ℤ k → b ≡ r *ℤ l → c ≡ q *ℤ l → d ≡ s *ℤ k → p *ℤ q *ℤ (b *ℤ d) ≡ a *ℤ c *ℤ (r *ℤ s)
@@ -73,6 +73,10 @@ product_is f g k l n m low low' pk pl k_is l_is n_is m_is =
 -- lowest terms turned over
 pub IsLowest-comm : (a b : ℤ) → IsLowest a b → IsLowest b a
 IsLowest-comm a b h = AreCoprime_comm (unsigned_abs a) (unsigned_abs b) h
+
+-- with the other sign a reduced fraction is reduced
+pub IsReduced-opposite : (f : Fraction) → IsReduced f → IsReduced (opposite f)
+IsReduced-opposite f h = (h.0, subst (λ n. AreCoprime n (unsigned_abs f.den)) (sym (unsigned_abs-neg f.num)) h.1)
 
 -- the same with both signs changed
 pub IsLowest-neg_comm : (a b : ℤ) → IsLowest a b → IsLowest (neg_ℤ b) (neg_ℤ a)

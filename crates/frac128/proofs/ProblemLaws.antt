@@ -58,10 +58,6 @@ farkas_certificate_refutes p cert h x n f =
     let below = AreAtMost-trans sum (add (replicate p.vars (pos 0)) sum) [] (AreAtMost-add_zeros p.vars sum) (AreAtMost-nil (add (replicate p.vars (pos 0)) sum) h.none_above) in
     farkas (coefs_on p.rows on) x (bounds_on p.rows on) (multipliers on) n f.den_pos (multipliers_nonneg on h.entries.nonneg) below h.bound_above (meets_on p.rows x n f.meets on h.entries.positions_below) f.nonneg
 
--- a point that costs what a lower bound says has the least cost: no point costs less
-pub no_cost_below : (p : ProblemData) (x : List ℤ) (n : ℤ) → IsLowerBound p (cost_at p x n) → (y : List ℤ) (m : ℤ) → IsFeasible p y m → ¬ FractionLess (cost_at p y m) (cost_at p x n)
-no_cost_below p x n h y m f = (FractionAtMost-not_below (cost_at p x n) (cost_at p y m)).0 (h y m f)
-
 -- ---- least points
 
 -- two least points are one, and so are their costs

@@ -14,7 +14,7 @@ use Rattle.integers.specs.Fraction.{Fraction}
 use Rattle.integers.proofs.Divisibility.{unsigned_abs-neg}
 use Rattle.frac128.specs.Range.{IsInRange}
 use Rattle.frac128.specs.Text.{WritesUnsigned, Writes, WritesNone, IsTooWide, IsReading}
-use Rattle.frac128.specs.Reading.{IsNumber, IsNumberFault, IsQuotient, IsQuotientFault, WritesSizes, IsSizesFault, WritesSigned, IsReadingFault}
+use Rattle.frac128.specs.Reading.{WritesNumber, IsNumberFault, WriteQuotient, IsQuotientFault, WritesSizes, IsSizesFault, WritesSigned, IsReadingFault}
 use Rattle.frac128.specs.declared.reading.FracFault.{FracFault}
 use Rattle.frac128.specs.declared.reading.FracFault.TheVariants.{BadNumber, TooWide}
 use Rattle.frac128.proofs.TextLemmas.{digits_without_slash, quotient_at_slash, first_digit, one_reading}
@@ -48,7 +48,7 @@ parts_at_slash text i h =
     sym (take-append-drop i text) ∙ ap (λ t. take i text ++ t) (drop-cons text i 0 h.inside ∙ ap (λ b. b ∷ drop (suc i) text) h.here ∙ ap (λ k. 47 ∷ drop k text) next)
 
 -- a text without `/`
-pub sizes_of_whole : (text : List ℕ) (num den : ℤ) → IsNumber text num → den ≡ pos 1 → WritesSizes text num den
+pub sizes_of_whole : (text : List ℕ) (num den : ℤ) → WritesNumber text num → den ≡ pos 1 → WritesSizes text num den
 sizes_of_whole text num den h e = record { num_size = digits_value 10 text; den_size = 1; unsigned = inl (h.0, refl, refl); num_fits = h.1; den_fits = omega arith; num_is = h.2; den_is = e }
 
 pub fault_of_whole : (text : List ℕ) (fault : FracFault) → position (λ byte. byte == 47) text ≡ None → IsNumberFault text fault → IsSizesFault text fault
@@ -60,7 +60,7 @@ module _ (text : List ℕ) (i : ℕ) (e : position (λ byte. byte == 47) text �
   writes : IsNumeral 10 (take i text) → IsNumeral 10 (drop (i + 1) text) → 0 < digits_value 10 (drop (i + 1) text) → WritesUnsigned text (digits_value 10 (take i text)) (digits_value 10 (drop (i + 1) text))
   writes p q r = inr (record { top = take i text; bottom = drop (i + 1) text; parts = parts_at_slash text i (first_slash_is text i e); top_digits = p; bottom_digits = q; num_is = refl; den_is = refl; den_positive = r })
 
-  pub sizes_of_quotient : (num den : ℤ) → IsQuotient (take i text) (drop (i + 1) text) num den → WritesSizes text num den
+  pub sizes_of_quotient : (num den : ℤ) → WriteQuotient (take i text) (drop (i + 1) text) num den → WritesSizes text num den
   sizes_of_quotient num den h = record { num_size = digits_value 10 (take i text); den_size = digits_value 10 (drop (i + 1) text); unsigned = writes h.0.0 h.1.0 h.2; num_fits = h.0.1; den_fits = h.1.1; num_is = h.0.2; den_is = h.1.2 }
 
   pub fault_of_quotient : (fault : FracFault) → IsQuotientFault (take i text) (drop (i + 1) text) fault → IsSizesFault text fault
@@ -71,12 +71,12 @@ module _ (text : List ℕ) (i : ℕ) (e : position (λ byte. byte == 47) text �
   fault_of_quotient TooWide h = record { num_size = digits_value 10 (take i text); den_size = digits_value 10 (drop (i + 1) text); unsigned = writes h.0.0 h.0.1 h.0.2; wide = h.1 }
 
 -- what the two steps answer, as what the whole answers
-pub reads_whole : (text : List ℕ) (r : Result (ℤ × ℤ) FracFault) → position (λ byte. byte == 47) text ≡ None → MatchResult r (λ sizes. IsNumber text sizes.0 × (sizes.1 ≡ pos 1)) (λ fault. IsNumberFault text fault) → MatchResult r (λ sizes. WritesSizes text sizes.0 sizes.1) (λ fault. IsSizesFault text fault)
+pub reads_whole : (text : List ℕ) (r : Result (ℤ × ℤ) FracFault) → position (λ byte. byte == 47) text ≡ None → MatchResult r (λ sizes. WritesNumber text sizes.0 × (sizes.1 ≡ pos 1)) (λ fault. IsNumberFault text fault) → MatchResult r (λ sizes. WritesSizes text sizes.0 sizes.1) (λ fault. IsSizesFault text fault)
 reads_whole text (Ok sizes) none h = sizes_of_whole text sizes.0 sizes.1 h.0 h.1
 reads_whole text (Err fault) none h = fault_of_whole text fault none h
 
-pub reads_quotient : (text : List ℕ) (i : ℕ) (top bottom : List ℕ) (r : Result (ℤ × ℤ) FracFault) → position (λ byte. byte == 47) text ≡ Some i → top ≡ take i text → bottom ≡ drop (i + 1) text → MatchResult r (λ sizes. IsQuotient top bottom sizes.0 sizes.1) (λ fault. IsQuotientFault top bottom fault) → MatchResult r (λ sizes. WritesSizes text sizes.0 sizes.1) (λ fault. IsSizesFault text fault)
-reads_quotient text i top bottom (Ok sizes) e p q h = sizes_of_quotient text i e sizes.0 sizes.1 (subst (λ t. IsQuotient t (drop (i + 1) text) sizes.0 sizes.1) p (subst (λ b. IsQuotient top b sizes.0 sizes.1) q h))
+pub reads_quotient : (text : List ℕ) (i : ℕ) (top bottom : List ℕ) (r : Result (ℤ × ℤ) FracFault) → position (λ byte. byte == 47) text ≡ Some i → top ≡ take i text → bottom ≡ drop (i + 1) text → MatchResult r (λ sizes. WriteQuotient top bottom sizes.0 sizes.1) (λ fault. IsQuotientFault top bottom fault) → MatchResult r (λ sizes. WritesSizes text sizes.0 sizes.1) (λ fault. IsSizesFault text fault)
+reads_quotient text i top bottom (Ok sizes) e p q h = sizes_of_quotient text i e sizes.0 sizes.1 (subst (λ t. WriteQuotient t (drop (i + 1) text) sizes.0 sizes.1) p (subst (λ b. WriteQuotient top b sizes.0 sizes.1) q h))
 reads_quotient text i top bottom (Err fault) e p q h = fault_of_quotient text i e fault (subst (λ t. IsQuotientFault t (drop (i + 1) text) fault) p (subst (λ b. IsQuotientFault top b fault) q h))
 
 -- the denominator is not 0

@@ -1,10 +1,10 @@
 -- Arithmetic of fractions that refuses numbers out of the range: what each call forms, and what it answers.
 -- A formula is a chain of these, as `do x ← checked_sum f g; checked_product x h`.
-use Rattle.std.specs.Prelude.{Bool, true, false, List, [], ◌∷◌, ◌++◌, ℤ, ◌+ℤ◌, ◌-ℤ◌, ◌*ℤ◌, int_div, Result, Ok, Err, MatchResult}
+use Rattle.std.specs.Prelude.{Bool, true, false, List, [], ◌∷◌, ℤ, ◌+ℤ◌, ◌*ℤ◌, int_div, Result, Ok, Err, MatchResult}
 use Rattle.std.specs.List.{list_all, AllByRecursion}
 use Rattle.integers.specs.Divisibility.{gcd_of}
-use Rattle.integers.specs.Fraction.{Fraction, SameFraction}
-use Rattle.frac128.specs.Frac.{IsReduced, lowest_terms, fraction_sum, fraction_difference, fraction_product, reciprocal}
+use Rattle.integers.specs.Fraction.{Fraction, SameFraction, fraction_sum, fraction_product}
+use Rattle.frac128.specs.Frac.{IsReduced, lowest_terms, opposite, reciprocal}
 use Rattle.frac128.specs.Range.{IsInRange, is_in_range}
 use Rattle.frac128.specs.declared.number.TooWide.{TooWide}
 
@@ -25,15 +25,6 @@ sum_numbers k f g =
     ∷ (f.den *ℤ int_div g.den k)
     ∷ []
 
--- for a/b - c/d and a common divisor k of b and d: a*(d/k), c*(b/k), their difference and b*(d/k)
-abbrev pub difference_numbers : ℤ → Fraction → Fraction → List ℤ
-difference_numbers k f g =
-    (f.num *ℤ int_div g.den k)
-    ∷ (g.num *ℤ int_div f.den k)
-    ∷ (f.num *ℤ int_div g.den k -ℤ g.num *ℤ int_div f.den k)
-    ∷ (f.den *ℤ int_div g.den k)
-    ∷ []
-
 -- for a/b * c/d, a common divisor k of a and d, and l of c and b: (a/k)*(c/l) and (b/l)*(d/k)
 abbrev pub product_numbers : ℤ → ℤ → Fraction → Fraction → List ℤ
 product_numbers k l f g =
@@ -49,9 +40,9 @@ AreInRange zs = AllByRecursion IsInRange zs
 abbrev pub SumFits : Fraction → Fraction → Type 0
 SumFits f g = AreInRange (sum_numbers (gcd_of f.den g.den) f g)
 
--- those of a difference, with the same divisor
+-- those of a difference, which is the sum with the opposite
 abbrev pub DifferenceFits : Fraction → Fraction → Type 0
-DifferenceFits f g = AreInRange (difference_numbers (gcd_of f.den g.den) f g)
+DifferenceFits f g = SumFits f (opposite g)
 
 -- those of a product, with the greatest common divisors crosswise
 abbrev pub ProductFits : Fraction → Fraction → Type 0
@@ -77,12 +68,12 @@ checked_sum f g = checked (sum_numbers (gcd_of f.den g.den) f g) (fraction_sum f
 
 -- a/b - c/d
 unfoldable pub checked_difference : Fraction → Fraction → Result Fraction TooWide
-checked_difference f g = checked (difference_numbers (gcd_of f.den g.den) f g) (fraction_difference f g)
+checked_difference f g = checked_sum f (opposite g)
 
 -- a/b * c/d
 unfoldable pub checked_product : Fraction → Fraction → Result Fraction TooWide
 checked_product f g = checked (product_numbers (gcd_of f.num g.den) (gcd_of g.num f.den) f g) (fraction_product f g)
 
 -- (a/b) / (c/d), which means something where c isn't 0
-abbrev pub checked_quotient : Fraction → Fraction → Result Fraction TooWide
+unfoldable pub checked_quotient : Fraction → Fraction → Result Fraction TooWide
 checked_quotient f g = checked_product f (reciprocal g.num g.den)

@@ -1,7 +1,7 @@
 -- Fractions rounded to decimal places.
 use Rattle.integers.specs.Fraction.{Fraction}
 use Rattle.std.specs.Fmt.{decimal}
-use Rattle.std.specs.Prelude.{◌≡◌, ◌≤◌, ◌*◌, ◌^◌, ◌+◌, ◌<◌, ℕ, List, [], ◌∷◌, ◌++◌, ℤ, Bool, if◌then◌else◌, replicate, ◌-◌, pos, negsuc, ◌*ℤ◌, ◌-ℤ◌, length, unsigned_abs}
+use Rattle.std.specs.Prelude.{◌≡◌, ◌≤◌, ◌*◌, ◌^◌, ◌+◌, ◌<◌, ℕ, List, [], ◌++◌, codes, ℤ, Bool, if◌then◌else◌, replicate, ◌-◌, pos, negsuc, ◌*ℤ◌, ◌-ℤ◌, length, unsigned_abs}
 use Rattle.std.specs.Str.Parse.{AllDigits, digits_value}
 
 -- k is the whole number nearest to scale times the fraction, and of two such numbers the one farther from 0
@@ -13,7 +13,7 @@ pub record IsNearest (scale : ℕ) (f : Fraction) (k : ℤ) : Type 0 where
 -- `-` below 0
 abbrev pub sign_text : ℤ → List ℕ
 sign_text (pos n) = []
-sign_text (negsuc n) = 45 ∷ []
+sign_text (negsuc n) = codes "-"
 
 -- the text is a sign, digits, `.` and so many digits, which without the `.` write the fraction rounded to them
 pub record IsDecimal (f : Fraction) (places : ℕ) (text : List ℕ) : Type 0 where
@@ -21,7 +21,7 @@ pub record IsDecimal (f : Fraction) (places : ℕ) (text : List ℕ) : Type 0 wh
   pub whole : ℕ
   pub tail : List ℕ
   pub nearest : IsNearest (10 ^ places) f rounded
-  pub parts : text ≡ sign_text rounded ++ (decimal whole ++ 46 ∷ tail)
+  pub parts : text ≡ sign_text rounded ++ (decimal whole ++ (codes "." ++ tail))
   pub tail_digits : AllDigits 10 tail
   pub tail_length : length tail ≡ places
   pub size_is : unsigned_abs rounded ≡ whole * 10 ^ places + digits_value 10 tail
@@ -36,4 +36,5 @@ padded_digits places part = replicate (places - length (decimal part)) 48 ++ dec
 
 -- `-` where asked, the whole part, `.` and so many digits
 abbrev pub pointed_text : Bool → ℕ → ℕ → ℕ → List ℕ
-pointed_text minus whole part places = (if minus then 45 ∷ [] else []) ++ (decimal whole ++ 46 ∷ padded_digits places part)
+pointed_text minus whole part places =
+    (if minus then codes "-" else []) ++ (decimal whole ++ (codes "." ++ padded_digits places part))

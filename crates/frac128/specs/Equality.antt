@@ -11,13 +11,21 @@ abbrev pub is_same_row : Row → Row → Bool
 is_same_row = eq_of_both (on (λ (r : Row). r.coefs) (pointwise int_eq)) (on (λ (r : Row). r.bound) int_eq)
 
 pub is_same_row-laws : IsEquivalence is_same_row
-is_same_row-laws = and_equiv (on_equiv (λ (r : Row). r.coefs) (lists_equiv int_eq_equiv)) (on_equiv (λ (r : Row). r.bound) int_eq_equiv)
+is_same_row-laws = and_equiv
+    (on_equiv (λ (r : Row). r.coefs) (lists_equiv int_eq_equiv))
+    (on_equiv (λ (r : Row). r.bound) int_eq_equiv)
 
 -- the same number of variables, the same costs and the same rows
 abbrev pub is_same_problem : ProblemData → ProblemData → Bool
-is_same_problem = eq_of_both (on (λ (p : ProblemData). p.vars) nat_eq)
-    (eq_of_both (on (λ (p : ProblemData). p.cost) (pointwise int_eq)) (on (λ (p : ProblemData). p.rows) (pointwise is_same_row)))
+is_same_problem = eq_of_both
+    (on (λ (p : ProblemData). p.vars) nat_eq)
+    (eq_of_both
+      (on (λ (p : ProblemData). p.cost) (pointwise int_eq))
+      (on (λ (p : ProblemData). p.rows) (pointwise is_same_row)))
 
 pub is_same_problem-laws : IsEquivalence is_same_problem
-is_same_problem-laws = and_equiv (on_equiv (λ (p : ProblemData). p.vars) nat_eq_equiv)
-    (and_equiv (on_equiv (λ (p : ProblemData). p.cost) (lists_equiv int_eq_equiv)) (on_equiv (λ (p : ProblemData). p.rows) (lists_equiv is_same_row-laws)))
+is_same_problem-laws = and_equiv
+    (on_equiv (λ (p : ProblemData). p.vars) nat_eq_equiv)
+    (and_equiv
+      (on_equiv (λ (p : ProblemData). p.cost) (lists_equiv int_eq_equiv))
+      (on_equiv (λ (p : ProblemData). p.rows) (lists_equiv is_same_row-laws)))

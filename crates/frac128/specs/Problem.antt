@@ -1,4 +1,5 @@
--- Linear problems in whole numbers: the points that meet one, the least of them, and certificates that bound the cost or refute all points.
+-- Linear problems in whole numbers: the points that meet one, the least of them, and certificates that bound the cost
+-- or refute all points.
 use Rattle.std.specs.Prelude.{◌≡◌, ℕ, ◌<◌, List, length, map, replicate, [], slice_index_or, ℤ, pos, ◌*ℤ◌, ◌≤ℤ◌, ◌<ℤ◌, All, ◌∷◌}
 use Rattle.std.specs.List.Sorted.{IsStrictlyIncreasing}
 use Rattle.frac128.specs.Range.{IsInRange}
@@ -13,6 +14,10 @@ pub record ProblemData : Type 0 where
   pub vars : ℕ
   pub cost : List ℤ
   pub rows : List Row
+
+-- the problem of these data
+abbrev pub problem_of : ℕ → List ℤ → List Row → ProblemData
+problem_of vars cost rows = record { vars = vars; cost = cost; rows = rows }
 
 -- one number in range for each variable, and a bound in range
 pub record IsRow (vars : ℕ) (row : Row) : Type 0 where
@@ -59,7 +64,8 @@ cost_and_numbers p x n = over (dot p.cost x ∷ x) n
 -- x over n meets the problem, and no point that meets it comes before by its cost and, at equal costs, its numbers
 pub record IsLeast (p : ProblemData) (x : List ℤ) (n : ℤ) : Type 0 where
   pub feasible : IsFeasible p x n
-  pub none_before : (y : List ℤ) (m : ℤ) → IsFeasible p y m → ¬ LexLess (cost_and_numbers p y m) (cost_and_numbers p x n)
+  pub none_before : (y : List ℤ) (m : ℤ) → IsFeasible p y m
+      → ¬ LexLess (cost_and_numbers p y m) (cost_and_numbers p x n)
 
 -- ---- certificates: rows by position, from 0 on, each with its multiplier
 
@@ -84,7 +90,8 @@ rows_on rows on = map (λ (e : ℕ × ℤ). row_at rows e.0) on
 -- the sum of the rows, each times its multiplier: one coefficient for each variable, and a bound
 abbrev pub combination : ProblemData → List (ℕ × ℤ) → Row
 combination p on = record {
-  coefs = add (replicate p.vars (pos 0)) (weighted_sum (multipliers on) (map (λ (r : Row). r.coefs) (rows_on p.rows on)));
+  coefs = add (replicate p.vars (pos 0))
+      (weighted_sum (multipliers on) (map (λ (r : Row). r.coefs) (rows_on p.rows on)));
   bound = dot (multipliers on) (map (λ (r : Row). r.bound) (rows_on p.rows on));
 }
 

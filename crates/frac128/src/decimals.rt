@@ -1,16 +1,20 @@
 //! Fractions rounded to decimal places.
 
 ghost use Rattle.frac128.specs.Decimal.{IsDecimal, IsHalfUp, pointed_text};
+ghost use Rattle.frac128.specs.declared.decimals.TheConstants.{MOST_PLACES};
 ghost use Rattle.std.specs.Prelude.{◌≡◌, ◌+◌, ◌*◌, ◌<◌, ◌≤◌, ◌^◌, ◌↔◌, pos, ◌<ℤ◌, IsTrue, IfOk, string_bytes};
 
 use crate::frac::Frac;
 use std::alloc::{AllocError, Global};
 
+/// The most decimal places that a fraction is rounded to.
+pub const MOST_PLACES: u8 = 18;
+
 impl Frac {
     /// The fraction rounded to so many decimal places, half away from 0.
     pub fn decimal(&self, alloc: Global, places: u8) -> Result<String, AllocError>
         requires some { 1 ≤ places }
-        requires few { places ≤ 18 }
+        requires few { places ≤ MOST_PLACES }
         ensures { IfOk result (λ text. IsDecimal self.now places (string_bytes text)) }
     {
         let num = self.num();
@@ -49,7 +53,7 @@ fn rounded(num: u128, den: u128, places: u8) -> (u128, u64)
     requires num_fits { num < 2 ^ 127 }
     requires den_fits { den < 2 ^ 127 }
     requires positive { 0 < den }
-    requires few { places ≤ 18 }
+    requires few { places ≤ MOST_PLACES }
     ensures half_up { IsHalfUp (10 ^ places * num) den (result.0 * 10 ^ places + result.1) }
     ensures part { result.1 < 10 ^ places }
 {
@@ -67,7 +71,7 @@ fn rounded(num: u128, den: u128, places: u8) -> (u128, u64)
 
 // 10 to the power of places.
 fn power(places: u8) -> u64
-    requires { places ≤ 18 }
+    requires { places ≤ MOST_PLACES }
     ensures { result ≡ 10 ^ places }
 {
     10u64.pow(u32::from(places))
@@ -77,7 +81,7 @@ fn power(places: u8) -> u64
 fn digits_behind(rest: u128, den: u128, places: u8) -> (u64, u128)
     requires rest_below { rest < den }
     requires den_fits { den < 2 ^ 127 }
-    requires few { places ≤ 18 }
+    requires few { places ≤ MOST_PLACES }
     ensures split { result.0 * den + result.1 ≡ 10 ^ places * rest }
     ensures below { result.1 < den }
     ensures part { result.0 < 10 ^ places }

@@ -1,10 +1,10 @@
 //! Exact fractions in lowest terms, whose parts are within -(2^127 - 1) to 2^127 - 1.
 
 ghost use Rattle.frac128.specs.Checked.{checked_sum, checked_difference, checked_product, checked_quotient, IsExact, SumFits, DifferenceFits, ProductFits, QuotientFits};
-ghost use Rattle.frac128.specs.Frac.{IsReduced, fraction_sum, fraction_difference, fraction_product, fraction_quotient, lowest_terms, reciprocal};
+ghost use Rattle.frac128.specs.Frac.{IsReduced, lowest_terms, opposite, reciprocal};
 ghost use Rattle.frac128.specs.Range.{IsInRange};
 ghost use Rattle.integers.specs.Divisibility.{IsLowest, gcd_of};
-ghost use Rattle.integers.specs.Fraction.{SameFraction, fraction_of};
+ghost use Rattle.integers.specs.Fraction.{fraction_difference, fraction_of, fraction_product, fraction_quotient, fraction_sum};
 ghost use Rattle.std.specs.Ordering.{int_cmp};
 ghost use Rattle.std.specs.Prelude.{◌≡◌, ◌≢◌, pos, ◌*ℤ◌, ◌≤ℤ◌, ◌<ℤ◌, IfOk, OnErr, OnOk};
 
@@ -52,7 +52,7 @@ impl Frac {
         }
     }
 
-    /// The whole number as a fraction.
+    /// The whole number as a fraction, which is over 1.
     pub fn whole(number: i128) -> Frac
         requires { IsInRange number }
         ensures { result ≡ fraction_of number }
@@ -102,11 +102,12 @@ impl Frac {
         compare_numbers(self.num, self.den, other.num, other.den)
     }
 
-    /// The sum, in lowest terms. It refuses where `a * (d / g)`, `c * (b / g)`, their sum or `b * (d / g)` is out of range,
-    /// for `a / b + c / d` and the greatest common divisor `g` of `b` and `d`.
+    /// The sum, in lowest terms. For `a / b + c / d` and the greatest common divisor `g` of `b` and `d`
+    /// it refuses where `a * (d / g)`, `c * (b / g)`, their sum or `b * (d / g)` is out of range.
     pub fn add(&self, other: &Frac) -> Result<Frac, TooWide>
         ensures is { result ≡ checked_sum self.now other.now }
-        ensures exact { IsExact result (SumFits self.now other.now) (fraction_sum self.now other.now) }
+        ensures exact { IsExact result (SumFits self.now other.now)
+            (fraction_sum self.now other.now) }
     {
         self.add_by(other, self.den.common_divisor(other.den))
     }
@@ -124,33 +125,32 @@ impl Frac {
         Ok(Frac::reduced(num, den))
     }
 
-    /// The difference, in lowest terms. It refuses where `a * (d / g)`, `c * (b / g)`, their difference or `b * (d / g)` is
-    /// out of range, for `a / b - c / d` and the greatest common divisor `g` of `b` and `d`.
+    /// The difference, in lowest terms: the sum with the opposite, refused where that sum is.
     pub fn sub(&self, other: &Frac) -> Result<Frac, TooWide>
         ensures is { result ≡ checked_difference self.now other.now }
-        ensures exact { IsExact result (DifferenceFits self.now other.now) (fraction_difference self.now other.now) }
+        ensures exact { IsExact result (DifferenceFits self.now other.now)
+            (fraction_difference self.now other.now) }
     {
-        self.sub_by(other, self.den.common_divisor(other.den))
+        self.add(&other.opposite())
     }
 
-    // The difference, with the greatest common divisor of the denominators.
-    fn sub_by(&self, other: &Frac, divisor: Number) -> Result<Frac, TooWide>
-        requires divisor { divisor ≡ gcd_of self.now.den other.now.den }
-        requires positive { pos 0 <ℤ divisor }
-        ensures { IsExact result (DifferenceFits self.now other.now) (fraction_difference self.now other.now) }
+    // The fraction with the other sign.
+    fn opposite(&self) -> Frac
+        ensures { result ≡ opposite self.now }
     {
-        let left = self.den.quotient(divisor);
-        let right = other.den.quotient(divisor);
-        let num = self.num.times(right)?.minus(other.num.times(left)?)?;
-        let den = self.den.times(right)?;
-        Ok(Frac::reduced(num, den))
+        Frac {
+            num: self.num.negated(),
+            den: self.den,
+        }
     }
 
-    /// The product, in lowest terms. It refuses where `(a / g) * (c / h)` or `(b / h) * (d / g)` is out of range, for
-    /// `a / b * c / d` and the greatest common divisors `g` of `a` and `d` and `h` of `c` and `b`.
+    /// The product, in lowest terms. For `a / b * c / d` and the greatest common divisors `g` of `a` and
+    /// `d` and `h` of `c` and `b` it refuses where `(a / g) * (c / h)` or `(b / h) * (d / g)` is out of
+    /// range.
     pub fn mul(&self, other: &Frac) -> Result<Frac, TooWide>
         ensures is { result ≡ checked_product self.now other.now }
-        ensures exact { IsExact result (ProductFits self.now other.now) (fraction_product self.now other.now) }
+        ensures exact { IsExact result (ProductFits self.now other.now)
+            (fraction_product self.now other.now) }
     {
         let first = self.num.common_divisor(other.den);
         let second = other.num.common_divisor(self.den);
@@ -162,24 +162,27 @@ impl Frac {
         requires first { first ≡ gcd_of self.now.num other.now.den }
         requires second { second ≡ gcd_of other.now.num self.now.den }
         requires positive { (pos 0 <ℤ first) × (pos 0 <ℤ second) }
-        ensures { IsExact result (ProductFits self.now other.now) (fraction_product self.now other.now) }
+        ensures { IsExact result (ProductFits self.now other.now)
+            (fraction_product self.now other.now) }
     {
         let num = self.num.quotient(first).times(other.num.quotient(second))?;
         let den = self.den.quotient(second).times(other.den.quotient(first))?;
         Ok(Frac { num, den })
     }
 
-    /// The quotient by a fraction other than 0: the product with its reciprocal, refused where that product is.
+    /// The quotient by a fraction other than 0, in lowest terms: the product with its reciprocal,
+    /// refused where that product is.
     pub fn div(&self, other: &Frac) -> Result<Frac, TooWide>
         requires { other.now.num ≢ pos 0 }
         ensures is { result ≡ checked_quotient self.now other.now }
-        ensures exact { IsExact result (QuotientFits self.now other.now) (fraction_quotient self.now other.now) }
+        ensures exact { IsExact result (QuotientFits self.now other.now)
+            (fraction_quotient self.now other.now) }
     {
-        self.mul(&other.inverse())
+        self.mul(&other.reciprocal())
     }
 
     // The reciprocal.
-    fn inverse(&self) -> Frac
+    fn reciprocal(&self) -> Frac
         requires { self.now.num ≢ pos 0 }
         ensures { result ≡ reciprocal self.now.num self.now.den }
     {

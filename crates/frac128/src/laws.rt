@@ -1,16 +1,18 @@
 //! Laws of the definitions, as contracts of functions that do nothing.
 
 ghost use Rattle.frac128.specs.Checked.{checked_sum, checked_difference, checked_product, checked_quotient, IsExact, SumFits, DifferenceFits, ProductFits, QuotientFits};
+ghost use Rattle.frac128.specs.Decimal.{IsNearest};
 ghost use Rattle.frac128.specs.Text.{Writes};
-ghost use Rattle.frac128.specs.Frac.{IsReduced, fraction_sum, fraction_difference, fraction_product, fraction_quotient, lowest_terms};
-ghost use Rattle.integers.specs.Fraction.{AreFractions, Fraction, IsFraction, SameFraction};
+ghost use Rattle.frac128.specs.Frac.{IsReduced, lowest_terms};
+ghost use Rattle.integers.specs.Fraction.{AreFractions, Fraction, IsFraction, SameFraction, fraction_difference, fraction_product, fraction_quotient, fraction_sum};
 ghost use Rattle.std.specs.Bool.{Decides};
 ghost use Rattle.std.specs.Prelude.{◌≡◌, ◌≢◌, ◌↔◌, IsTrue, All, ℕ, List as Items, ℤ, pos};
 
 use crate::problem::{Cert, Problem, Row};
 use crate::{Frac, List};
 
-/// States that a checked sum is the sum in lowest terms, exactly where the numbers that it forms are in range.
+/// States that a checked sum is the sum in lowest terms, exactly where the numbers that it forms are in
+/// range.
 pub fn sums_are_exact()
     ensures { (f g : Fraction) → IsFraction f → IsFraction g
         → IsExact (checked_sum f g) (SumFits f g) (fraction_sum f g) }
@@ -38,10 +40,11 @@ pub fn quotients_are_exact()
 pub fn lowest_terms_are_unique()
     ensures reduced { (f : Fraction) → IsFraction f → IsReduced (lowest_terms f) }
     ensures same { (f : Fraction) → IsFraction f → SameFraction (lowest_terms f) f }
-    ensures unique { (f g : Fraction) → IsFraction g → IsReduced f → SameFraction f g → f ≡ lowest_terms g }
+    ensures unique { (f g : Fraction) → IsFraction g → IsReduced f → SameFraction f g
+        → f ≡ lowest_terms g }
 {}
 
-/// Whether two lists are equal, which they are exactly where they are one, if that holds of their items.
+/// Whether two lists are equal: exactly where they are one, if that holds of their items.
 pub fn are_equal_lists<T: PartialEq>(a: &List<T>, b: &List<T>) -> bool
     ensures { ((x y : T) → Decides (T.eq x y) (x ≡ y)) → Decides result (a.now ≡ b.now) }
 {
@@ -69,19 +72,26 @@ pub fn are_equal_certs(a: &Cert, b: &Cert) -> bool
     a == b
 }
 
-/// States that bytes write one pair of numbers only. It does nothing.
+/// States that a fraction is rounded to one number only.
+pub fn roundings_are_unique()
+    ensures { (scale : ℕ) (f : Fraction) (k m : ℤ) → IsFraction f
+        → IsNearest scale f k → IsNearest scale f m → k ≡ m }
+{}
+
+/// States that bytes write one pair of numbers only.
 pub fn a_text_writes_one_pair()
     ensures { (bytes : Items ℕ) (n m : ℤ) (d e : ℕ)
         → Writes bytes n d → Writes bytes m e → (n ≡ m) × (d ≡ e) }
 {}
 
-/// States what the type of fractions keeps, of each of a list: a positive denominator, and lowest terms. It only reads them, since
-/// what a type keeps is told where it is read.
+/// States what the type of fractions keeps, of each of a list: a positive denominator, and lowest terms.
+/// It only reads them, since what a type keeps is told where it is read.
 pub fn are_fractions(fractions: &[Frac])
     ensures positive { AreFractions fractions.now }
     ensures lowest { All IsReduced fractions.now }
 {
     for fraction in fractions {
+        // For the prover alone: a read tells what the type keeps.
         let _ = fraction.den();
     }
 }

@@ -15,6 +15,7 @@ mod tests;
 #[cfg(test)]
 mod text_tests;
 
+pub use decimals::MOST_PLACES;
 pub use frac::Frac;
 pub use list::List;
 pub use number::{Division, Number, TooWide};

@@ -1,4 +1,4 @@
-//! Whole numbers within -(2^127 - 1) to 2^127 - 1, and arithmetic that refuses what leaves that range.
+//! Whole numbers within -(2^127 - 1) to 2^127 - 1, and arithmetic that refuses to leave that range.
 
 ghost use Rattle.frac128.specs.Range.{IsInRange};
 ghost use Rattle.integers.specs.Divisibility.{IsGcdOf, gcd_of};

@@ -7,7 +7,8 @@ ghost use Rattle.std.specs.Prelude.{◌≡◌, pos, ◌*ℤ◌, ◌<ℤ◌};
 use crate::number::{Number, product_of_words};
 use std::cmp::Ordering;
 
-/// How `a / b` compares with `c / d`, for denominators of at least 1 and numbers within -(2^127 - 1) to 2^127 - 1.
+/// How `a / b` compares with `c / d`, for denominators of at least 1 and numbers within -(2^127 - 1) to
+/// 2^127 - 1.
 pub fn compare(a: i128, b: i128, c: i128, d: i128) -> Ordering
     requires positive { (pos 0 <ℤ b) × (pos 0 <ℤ d) }
     requires left_in_range { IsInRange a × IsInRange b }

@@ -1,7 +1,7 @@
 //! Linear problems in whole numbers as plain data, and the certificates that speak of them.
 
 ghost use Rattle.std.specs.Prelude.{◌≡◌, ◌<ℤ◌, IfOk, List as Items, ℤ, pos, SomeIff};
-ghost use Rattle.frac128.specs.Problem.{IsProblem, IsFeasible, IsLeast, IsLowerBound, IsInfeasible, IsSpanCertificate, IsFarkasCertificate};
+ghost use Rattle.frac128.specs.Problem.{IsProblem, IsFeasible, IsLeast, IsLowerBound, IsInfeasible, IsSpanCertificate, IsFarkasCertificate, problem_of};
 ghost use Rattle.integers.specs.Fraction.{Fraction, over, SameFractions};
 
 mod check;
@@ -11,7 +11,7 @@ use crate::problem::check::{are_in_range, are_not_negative, are_rows};
 use std::alloc::{AllocError, Global};
 use std::marker::Model;
 
-/// One condition on a point `x`: the sum of `coefs[j] * x[j]` over all variables is at least `bound`.
+/// One condition on a point `x`: the sum of all `coefs[j] * x[j]` is at least `bound`.
 #[derive(Debug, PartialEq, Eq, Drop)]
 pub struct Row {
     /// One number for each variable.
@@ -20,8 +20,8 @@ pub struct Row {
     pub bound: i128,
 }
 
-/// The least `cost * x` over the points `x` with a number of at least 0 for each variable that meet each row.
-/// No cost is below 0, and each number's absolute value is below 2^127.
+/// The least `cost * x` over the points `x` that meet each row, with a number of at least 0 for each
+/// variable. No cost is below 0, and each number's absolute value is below 2^127.
 #[derive(Debug, Drop)]
 pub struct Problem {
     vars: usize,
@@ -29,7 +29,8 @@ pub struct Problem {
     rows: List<Row>,
 }
 
-/// Multipliers of a problem's rows, whose sum with them shows a bound of the cost, or that no point meets all rows.
+/// Multipliers of a problem's rows, whose sum with them shows a bound of the cost, or that no point
+/// meets all rows.
 #[derive(Debug, PartialEq, Eq, Drop)]
 pub struct Cert {
     /// What the multipliers are over.
@@ -70,16 +71,16 @@ impl Eq for Problem {
 impl Problem {
     /// The problem of these data. It takes no memory.
     pub fn make(vars: usize, cost: List<i128>, rows: List<Row>) -> Problem
-        requires { IsProblem (record { vars = vars; cost = cost; rows = rows }) }
-        ensures { result ≡ record { vars = vars; cost = cost; rows = rows } }
+        requires { IsProblem (problem_of vars cost rows) }
+        ensures { result ≡ problem_of vars cost rows }
     {
         Problem { vars, cost, rows }
     }
 
-    /// The problem of these data, where they are one: one cost for each variable, none below 0, rows over the same variables,
-    /// and no number -2^127. It takes no memory.
+    /// The problem of these data, where they are one: one cost for each variable, none below 0, rows over
+    /// the same variables, and no number -2^127. It takes no memory.
     pub fn checked(vars: usize, cost: List<i128>, rows: List<Row>) -> Option<Problem>
-        ensures { SomeIff result (IsProblem (record { vars = vars; cost = cost; rows = rows })) (record { vars = vars; cost = cost; rows = rows }) }
+        ensures { SomeIff result (IsProblem (problem_of vars cost rows)) (problem_of vars cost rows) }
     {
         let costs = cost.as_slice();
         if costs.len() == vars
@@ -129,29 +130,32 @@ impl Cert {
     }
 }
 
-/// States that a span certificate of a value bounds the cost of each point that meets the problem. It does nothing.
+/// States that a span certificate of a value bounds the cost of each point that meets the problem.
 pub fn span_bounds_cost(problem: &Problem, cert: &Cert)
-    ensures { (value : Fraction) → IsSpanCertificate problem.now cert.now value → IsLowerBound problem.now value }
+    ensures { (value : Fraction) → IsSpanCertificate problem.now cert.now value
+        → IsLowerBound problem.now value }
 {}
 
-/// States that with a Farkas certificate no point meets the problem. It does nothing.
+/// States that with a Farkas certificate no point meets the problem.
 pub fn farkas_refutes(problem: &Problem, cert: &Cert)
     requires { IsFarkasCertificate problem.now cert.now }
     ensures { IsInfeasible problem.now }
 {}
 
-/// States that two least points are one, however they are written. It does nothing.
+/// States that two least points are one, however they are written.
 pub fn least_is_unique(problem: &Problem)
-    ensures { (x : Items ℤ) (n : ℤ) (y : Items ℤ) (m : ℤ) → IsLeast problem.now x n → IsLeast problem.now y m
-        → SameFractions (over x n) (over y m) }
+    ensures { (x : Items ℤ) (n : ℤ) (y : Items ℤ) (m : ℤ)
+        → IsLeast problem.now x n → IsLeast problem.now y m → SameFractions (over x n) (over y m) }
 {}
 
-/// States that a point's numbers alone decide whether it meets the problem and whether it is the least, and not how they
-/// are written. It does nothing.
+/// States that a point's numbers alone decide whether it meets the problem and whether it is the least,
+/// and not how they are written.
 pub fn writing_does_not_count(problem: &Problem)
-    ensures feasible { (x : Items ℤ) (n : ℤ) (y : Items ℤ) (m : ℤ) → pos 0 <ℤ m → SameFractions (over x n) (over y m)
+    ensures feasible { (x : Items ℤ) (n : ℤ) (y : Items ℤ) (m : ℤ)
+        → pos 0 <ℤ m → SameFractions (over x n) (over y m)
         → IsFeasible problem.now x n → IsFeasible problem.now y m }
-    ensures least { (x : Items ℤ) (n : ℤ) (y : Items ℤ) (m : ℤ) → pos 0 <ℤ m → SameFractions (over x n) (over y m)
+    ensures least { (x : Items ℤ) (n : ℤ) (y : Items ℤ) (m : ℤ)
+        → pos 0 <ℤ m → SameFractions (over x n) (over y m)
         → IsLeast problem.now x n → IsLeast problem.now y m }
 {}
 

@@ -5,14 +5,14 @@ ghost use Rattle.std.specs.Str.Parse.{AllDigits, IsNumeral, digits_value};
 ghost use Rattle.frac128.specs.Text.{IsReading, IsTooWide, WritesNone};
 ghost use Rattle.std.specs.Char.{is_ascii_digit};
 ghost use Rattle.std.specs.List.{list_all, position};
-ghost use Rattle.frac128.specs.Reading.{IsNumber, IsNumberFault, IsQuotient, IsQuotientFault, IsReadingFault, IsSizesFault, WritesSigned, WritesSizes};
+ghost use Rattle.frac128.specs.Reading.{WritesNumber, IsNumberFault, WriteQuotient, IsQuotientFault, IsReadingFault, IsSizesFault, WritesSigned, WritesSizes, slash};
 
 use crate::frac::Frac;
 
 /// Why bytes are read as no fraction.
 #[derive(Clone, Copy, Debug, PartialEq, Eq)]
 pub enum FracFault {
-    /// They are not an optional `-`, digits, and optionally `/` and digits of a number other than 0.
+    /// They are not an optional `-` and digits, with or without a `/` and digits of a number other than 0.
     BadNumber,
     /// They are, and one of the two numbers is beyond 2^127 - 1.
     TooWide,
@@ -20,7 +20,7 @@ pub enum FracFault {
 
 /// The fraction that the bytes write, in lowest terms.
 pub fn read_frac(bytes: &[u8]) -> Result<Frac, FracFault>
-    ensures ok { IfOk result (λ frac. IsReading bytes.now frac) }
+    ensures ok { IfOk result (IsReading bytes.now) }
     ensures bad_number { IsErrOf result FracFault.BadNumber ↔ WritesNone bytes.now }
     ensures too_wide { IsErrOf result FracFault.TooWide ↔ IsTooWide bytes.now }
 {
@@ -29,7 +29,7 @@ pub fn read_frac(bytes: &[u8]) -> Result<Frac, FracFault>
 
 // The same as one of three cases.
 fn reduced(bytes: &[u8]) -> Result<Frac, FracFault>
-    ensures { MatchResult result (λ frac. IsReading bytes.now frac) (λ fault. IsReadingFault bytes.now fault) }
+    ensures { MatchResult result (IsReading bytes.now) (IsReadingFault bytes.now) }
 {
     let (num, den) = signed_sizes(bytes)?;
     match Frac::make(num, den) {
@@ -40,7 +40,8 @@ fn reduced(bytes: &[u8]) -> Result<Frac, FracFault>
 
 // The two numbers that the bytes write.
 fn signed_sizes(bytes: &[u8]) -> Result<(i128, i128), FracFault>
-    ensures { MatchResult result (λ sizes. WritesSigned bytes.now sizes.0 sizes.1) (λ fault. IsReadingFault bytes.now fault) }
+    ensures { MatchResult result (λ sizes. WritesSigned bytes.now sizes.0 sizes.1)
+        (IsReadingFault bytes.now) }
 {
     if !bytes.is_empty() && bytes[0] == b'-' {
         negative_sizes(&bytes[1..])
@@ -51,7 +52,8 @@ fn signed_sizes(bytes: &[u8]) -> Result<(i128, i128), FracFault>
 
 // The two numbers that a text behind a `-` writes.
 fn negative_sizes(text: &[u8]) -> Result<(i128, i128), FracFault>
-    ensures { MatchResult result (λ sizes. WritesSizes text.now (neg_ℤ sizes.0) sizes.1) (λ fault. IsSizesFault text.now fault) }
+    ensures { MatchResult result (λ sizes. WritesSizes text.now (neg_ℤ sizes.0) sizes.1)
+        (IsSizesFault text.now) }
 {
     let (num, den) = sizes(text)?;
     Ok((negated(num), den))
@@ -67,7 +69,8 @@ fn negated(num: i128) -> i128
 
 // The two numbers that a text without a sign writes.
 fn sizes(text: &[u8]) -> Result<(i128, i128), FracFault>
-    ensures { MatchResult result (λ sizes. WritesSizes text.now sizes.0 sizes.1) (λ fault. IsSizesFault text.now fault) }
+    ensures { MatchResult result (λ sizes. WritesSizes text.now sizes.0 sizes.1)
+        (IsSizesFault text.now) }
 {
     match first_slash(text) {
         None => whole(text),
@@ -77,21 +80,23 @@ fn sizes(text: &[u8]) -> Result<(i128, i128), FracFault>
 
 // Where the first `/` stands.
 fn first_slash(text: &[u8]) -> Option<usize>
-    ensures { result ≡ position (λ byte. byte == 47) text.now }
+    ensures { result ≡ position (λ byte. byte == slash) text.now }
 {
     text.iter().position(|byte| *byte == b'/')
 }
 
 // The number that the text writes, over 1.
 fn whole(text: &[u8]) -> Result<(i128, i128), FracFault>
-    ensures { MatchResult result (λ sizes. IsNumber text.now sizes.0 × (sizes.1 ≡ pos 1)) (λ fault. IsNumberFault text.now fault) }
+    ensures { MatchResult result (λ sizes. WritesNumber text.now sizes.0 × (sizes.1 ≡ pos 1))
+        (IsNumberFault text.now) }
 {
     Ok((number(text)?, 1))
 }
 
 // The two numbers that the texts before and behind a `/` write.
 fn quotient(top: &[u8], bottom: &[u8]) -> Result<(i128, i128), FracFault>
-    ensures { MatchResult result (λ sizes. IsQuotient top.now bottom.now sizes.0 sizes.1) (λ fault. IsQuotientFault top.now bottom.now fault) }
+    ensures { MatchResult result (λ sizes. WriteQuotient top.now bottom.now sizes.0 sizes.1)
+        (IsQuotientFault top.now bottom.now) }
 {
     if !is_numeral(top) {
         return Err(FracFault::BadNumber);
@@ -105,7 +110,7 @@ fn quotient(top: &[u8], bottom: &[u8]) -> Result<(i128, i128), FracFault>
 
 // The number that the text writes, where it is digits alone and in the range.
 fn number(text: &[u8]) -> Result<i128, FracFault>
-    ensures { MatchResult result (λ number. IsNumber text.now number) (λ fault. IsNumberFault text.now fault) }
+    ensures { MatchResult result (WritesNumber text.now) (IsNumberFault text.now) }
 {
     if !is_numeral(text) {
         return Err(FracFault::BadNumber);
@@ -130,7 +135,8 @@ fn are_digits(text: &[u8]) -> bool
 // The number that the digits write, where it is in the range.
 fn value(digits: &[u8]) -> Option<i128>
     requires { AllDigits 10 digits.now }
-    ensures { SomeIff result (digits_value 10 digits.now < 2 ^ 127) (pos (digits_value 10 digits.now)) }
+    ensures { SomeIff result (digits_value 10 digits.now < 2 ^ 127)
+        (pos (digits_value 10 digits.now)) }
 {
     let mut sum: u128 = 0;
     for byte in digits {

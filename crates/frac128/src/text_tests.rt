@@ -1,4 +1,4 @@
-use crate::{FracFault, read_frac};
+use crate::{FracFault, MOST_PLACES, read_frac};
 use std::alloc::Global;
 use std::test::Fail;
 
@@ -13,7 +13,7 @@ fn printed(alloc: Global, text: &str) -> Result<String, Fail> {
 // The fraction that is read, rounded to so many places.
 fn rounded(alloc: Global, text: &str, places: u8) -> Result<String, Fail> {
     let frac = read_frac(text.as_bytes()).ok().ok_or("no fraction")?;
-    if places == 0 || places > 18 {
+    if places == 0 || places > MOST_PLACES {
         return Err(Fail::from("places"));
     }
     Ok(frac.decimal(alloc, places)?)

@@ -1,9 +1,13 @@
 -- The calls of this crate at work: each goal is closed in a line or two.
-use Rattle.std.proofs.Common.{◌≡◌, ℤ, pos, ◌+ℤ◌, ◌-ℤ◌, ◌*ℤ◌, ◌≤ℤ◌, ◌<ℤ◌, [], ◌∷◌, refl, List, arith}
+use lib.IntN.{*ℤ_comm}
+use Rattle.std.proofs.Common.{◌≡◌, ◌↔◌, ℤ, pos, ◌+ℤ◌, ◌-ℤ◌, ◌*ℤ◌, ◌≤ℤ◌, ◌<ℤ◌, [], ◌∷◌, get_or, refl, subst, List, arith}
 use Rattle.std.specs.Int.Signed.{le_z_yes}
 use Rattle.integers.specs.Vector.{dot, dot_each, AreNonNegative, AreAtMost}
 use Rattle.integers.proofs.Laws.{lin, one-*ℤ}
-use Rattle.integers.proofs.Order.{cancel_lt}
+use Rattle.integers.specs.Fraction.{Fraction, AreFractions, IsWriting, common_nums}
+use Rattle.integers.proofs.Order.{cancel_lt, mul_pos, pos_of_mul}
+use Rattle.integers.proofs.VectorLaws.{get_or-scale}
+use Rattle.integers.proofs.Writings.{any_writing}
 use Rattle.integers.proofs.VectorOrder.{weak_duality, AreNonNegative-at_most, AreAtMost-refl}
 use Rattle.integers.proofs.Ring.{con, neg, ◌⊕◌, ◌⊖◌, ◌⊗◌, ◌≗◌, ◌≼◌, ◌≺◌, ◌✶◌, ◌⇐◌, ring2, ring8, ring10, combine2, combine6, combine11}
 
@@ -38,3 +42,15 @@ two_by_three x y z h meets =
     let ones : AreNonNegative (pos 1 ∷ pos 1 ∷ []) = (AreNonNegative-at_most (pos 1 ∷ pos 1 ∷ [])).1 (le_z_yes tt, (le_z_yes tt, tt)) in
     let bound = weak_duality rows (x ∷ y ∷ z ∷ []) (pos 2 ∷ pos 3 ∷ []) (pos 1 ∷ pos 1 ∷ []) (pos 1 ∷ pos 2 ∷ pos 1 ∷ []) (pos 1) meets h ones (AreAtMost-refl (pos 1 ∷ pos 2 ∷ pos 1 ∷ [])) in
     omega (arith, lin, one-*ℤ (dot (pos 1 ∷ pos 2 ∷ pos 1 ∷ []) (x ∷ y ∷ z ∷ [])))
+
+-- that the first number of a list of fractions is above 0 doesn't depend on how the list is written
+starts_above : (fs : List Fraction) (w : List ℤ) (n : ℤ) (v : List ℤ) (m : ℤ) → AreFractions fs → IsWriting fs w n → IsWriting fs v m
+    → pos 0 <ℤ get_or w 0 (pos 0) ↔ pos 0 <ℤ get_or v 0 (pos 0)
+starts_above = any_writing (λ w n. pos 0 <ℤ get_or w 0 (pos 0)) (λ c w n pc pn. rw (get_or-scale c w 0) (
+  mul_pos c (get_or w 0 (pos 0)) pc,
+  λ h. pos_of_mul (get_or w 0 (pos 0)) c pc (subst (λ z. pos 0 <ℤ z) (*ℤ_comm c (get_or w 0 (pos 0))) h),
+))
+
+-- 1/2 and 2/3 as numbers over 6
+half_and_two_thirds : common_nums (record { num = pos 1; den = pos 2 } ∷ record { num = pos 2; den = pos 3 } ∷ []) ≡ pos 3 ∷ pos 4 ∷ []
+half_and_two_thirds = refl

@@ -1,9 +1,8 @@
 use Rattle.std.proofs.Common.{rules, ◌≡◌, pos, ◌+ℤ◌, ◌*ℤ◌, ◌<ℤ◌, int_div, unsigned_abs}
 use Rattle.integers.specs.Divisibility.{IsGcdOf}
-use Rattle.integers.specs.Fraction.{SameFraction}
+use Rattle.integers.specs.Fraction.{SameFraction, fraction_sum}
 use Rattle.integers.proofs.Order.{mul_pos}
 use Rattle.integers.proofs.Divisibility.{IsGcdOf-gcd_of, quotient_whole, quotient_positive}
-use Rattle.frac128.specs.Frac.{fraction_sum}
 use Rattle.frac128.specs.Checked.{SumFits}
 use Rattle.frac128.proofs.Fits.{sum_value}
 use Rattle.frac128.proofs.frac.Frac.add_by.Goals as goal

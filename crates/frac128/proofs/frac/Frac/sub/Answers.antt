@@ -1,14 +1,14 @@
-use Rattle.std.proofs.Common.{rules, ◌≡◌, pos, ◌<ℤ◌}
-use Rattle.integers.specs.Divisibility.{gcd_of}
-use Rattle.integers.proofs.Divisibility.{gcd_of_pos}
-use Rattle.frac128.proofs.Checked.{checked_difference-is}
+use Rattle.std.proofs.Common.{subst}
+use Rattle.integers.specs.Fraction.{fraction_sum}
+use Rattle.frac128.specs.Checked.{IsExact, SumFits}
+use Rattle.frac128.proofs.Checked.{exact_difference, sum_with_opposite}
 use Rattle.frac128.proofs.frac.Frac.sub.Goals as goal
 
-pub sub_by-requires-clause-positive : goal.sub_by-requires-clause-positive
-sub_by-requires-clause-positive c = rw c.common_divisor.ensures.is (gcd_of_pos c.self.inside.den c.other.inside.den c.other.invariant.0)
-
 pub returns-clause-is : goal.returns-clause-is
-returns-clause-is c =
-    let left : pos 0 <ℤ c.args.self.now.den = search rules in
-    let right : pos 0 <ℤ c.args.other.now.den = search rules in
-    checked_difference-is c.args.self.now c.args.other.now c.sub_by.result left right c.sub_by.ensures
+returns-clause-is c = sum_with_opposite c.args.self.now c.args.other.now c.opposite.result c.add.result c.opposite.ensures c.add.ensures.is
+
+-- the sum with the opposite is the difference
+pub returns-clause-exact : goal.returns-clause-exact
+returns-clause-exact c =
+    let sum = subst (λ t. IsExact c.add.result (SumFits c.args.self.now t) (fraction_sum c.args.self.now t)) c.opposite.ensures c.add.ensures.exact in
+    exact_difference c.args.self.now c.args.other.now c.add.result sum

@@ -1,6 +1,6 @@
 use Rattle.std.proofs.Common.{rules, ◌≡◌, neg_ℤ, pos, ◌<ℤ◌}
 use Rattle.frac128.proofs.Fits.{IsLowest-neg_comm}
-use Rattle.frac128.proofs.frac.Frac.inverse.Goals as goal
+use Rattle.frac128.proofs.frac.Frac.reciprocal.Goals as goal
 
 -- both signs changed
 pub invariant_of-t-7 : goal.invariant_of-t-7
