@@ -10,4 +10,6 @@ pub mod ThresholdTagLemmas
 pub mod MeetLemmas
 pub mod ThresholdLemmas
 pub mod CutLemmas
+pub mod ClosedRowLemmas
+pub mod ClosedLemmas
 pub mod ThresholdRowLemmas

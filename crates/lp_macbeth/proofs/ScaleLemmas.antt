@@ -60,7 +60,7 @@ met_row m x n (Order p) each among =
 -- ---- gaps at least 0
 
 -- the coefficients of a difference are at least 0
-gap_coefs_nonneg : (n p q : ℕ) → AreNonNegative (gap_coefs n p q)
+pub gap_coefs_nonneg : (n p q : ℕ) → AreNonNegative (gap_coefs n p q)
 gap_coefs_nonneg n p q =
     let zero : pos 0 ≤ℤ pos 0 = omega (arith, lin) in
     let one : pos 0 ≤ℤ pos 1 = omega (arith, lin) in

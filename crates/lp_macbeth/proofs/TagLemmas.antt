@@ -12,9 +12,10 @@ use Rattle.integers.proofs.Loops.{join_next}
 use Rattle.judgement_matrix.specs.Matrix.{Judgements, IsPair, pairs, range_at}
 use Rattle.judgement_matrix.specs.Rows.{order_rows, rows, IsTagAmong}
 use Rattle.judgement_matrix.specs.Walk.{lower_rows_of, zero_rows_of, cross_rows_under, cross_rows_of}
-use Rattle.judgement_matrix.proofs.EveryLemmas.{every-append, every-map, every-filter, every-flat_map, every-pairs, every-range, every_weaker}
+use Rattle.judgement_matrix.proofs.EveryLemmas.{every-append, every-append_left, every-append_right, every-map, every-filter, every-flat_map, every-pairs, every-range, every_weaker}
 use Rattle.judgement_matrix.specs.declared.tag.Tag.{Tag}
 use Rattle.judgement_matrix.specs.declared.tag.Tag.TheVariants.{Lower, Zero, Cross, Order}
+use Rattle.lp_macbeth.specs.Closed.{closed_tags}
 use Rattle.lp_macbeth.specs.Pairs.{under}
 use Rattle.lp_macbeth.specs.Rows.{judged_rows}
 use Rattle.lp_macbeth.proofs.PairLemmas.{All-from_every}
@@ -56,6 +57,18 @@ every-judged_rows m =
 
 every-order_rows : (m : Judgements) → AllByRecursion (IsTagAmong m.size) (order_rows m)
 every-order_rows m = every-map (IsTagAmong m.size) (λ p. Order p) (range_with_len 1 (m.size - 1)) (every-range (λ p. IsTagAmong m.size (Order p)) 1 (m.size - 1) (λ k low high. (low, omega arith)))
+
+every-closed_tags : (m : Judgements) → AllByRecursion (IsTagAmong m.size) (closed_tags m)
+every-closed_tags m =
+    let Among : Tag → Type 0 = IsTagAmong m.size in
+    let lower = lower_rows_of m (pairs m.size) in
+    let zero = zero_rows_of m (pairs m.size) in
+    let cross = cross_rows_of m (pairs m.size) (pairs m.size) in
+    let all = every-judged_rows m in
+    every-append Among zero cross (every-append_right Among lower zero (every-append_left Among (lower ++ zero) cross all)) (every-append_right Among (lower ++ zero) cross all)
+
+pub All-closed_tags : (m : Judgements) → All (IsTagAmong m.size) (closed_tags m)
+All-closed_tags m = All-from_every (IsTagAmong m.size) (closed_tags m) (every-closed_tags m)
 
 pub All-judged_rows : (m : Judgements) → All (IsTagAmong m.size) (judged_rows m)
 All-judged_rows m = All-from_every (IsTagAmong m.size) (judged_rows m) (every-judged_rows m)

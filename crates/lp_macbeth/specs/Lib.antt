@@ -2,3 +2,4 @@ pub mod Gaps
 pub mod Pairs
 pub mod Rows
 pub mod Threshold
+pub mod Closed

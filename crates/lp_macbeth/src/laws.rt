@@ -1,12 +1,15 @@
 //! What the definitions in the contracts amount to: functions that do nothing, whose contracts are the laws.
 
-ghost use Rattle.std.specs.Prelude.{◌≡◌, ◌≤◌, ◌-◌, ◌↔◌, List, ℤ, take};
+ghost use Rattle.std.specs.Prelude.{◌≡◌, ◌≤◌, ◌-◌, ◌↔◌, ◌++◌, ◌∷◌, [], List, ℤ, pos, ◌≤ℤ◌, take};
 ghost use Rattle.frac128.specs.Problem.{IsFeasible, IsInfeasible, IsLeast, cost_and_numbers};
 ghost use Rattle.integers.specs.Lexicographic.{LexLess};
 ghost use Rattle.judgement_matrix.specs.Least.{IsSmaller, IsLeastScale};
-ghost use Rattle.judgement_matrix.specs.Scale.{IsScale, IsMetBy, IsInconsistent};
+ghost use Rattle.judgement_matrix.specs.Matrix.{IsPair};
+ghost use Rattle.judgement_matrix.specs.Scale.{IsScale, IsMetInUnit, IsMetBy, IsInconsistent};
+ghost use Rattle.lp_macbeth.specs.Closed.{closed_problem_of, IsClosedScale};
 ghost use Rattle.lp_macbeth.specs.Gaps.{scale_of, gaps_of};
 ghost use Rattle.lp_macbeth.specs.Rows.{problem_of};
+ghost use Rattle.lp_macbeth.specs.Threshold.{threshold_problem_of};
 
 use judgement_matrix::Matrix;
 
@@ -29,4 +32,40 @@ pub fn least_point_is_least_scale(matrix: &Matrix)
         ↔ IsSmaller (scale_of x) n (scale_of y) k }
     ensures least { (x : List ℤ) (n : ℤ) → IsLeast (problem_of matrix.now) x n ↔ IsLeastScale matrix.now (scale_of x) n }
     ensures nothing { IsInfeasible (problem_of matrix.now) ↔ IsInconsistent matrix.now }
+{}
+
+/// States that the points of the threshold problem, cut to their gaps, are those of the matrix's problem, that each of these
+/// has thresholds, and that the least point of the one is that of the other, so that its gaps are the least scale; where the
+/// threshold problem has no point, no scale meets the matrix. It does nothing.
+pub fn thresholds_are_enough(matrix: &Matrix)
+    requires { 2 ≤ matrix.now.size }
+    ensures cut { (z : List ℤ) (n : ℤ) → IsFeasible (threshold_problem_of matrix.now) z n
+        → IsFeasible (problem_of matrix.now) (take (matrix.now.size - 1) z) n }
+    ensures extended { (x : List ℤ) (n : ℤ) → IsFeasible (problem_of matrix.now) x n
+        → (t : List ℤ) × IsFeasible (threshold_problem_of matrix.now) (x ++ t) n }
+    ensures least { (z : List ℤ) (n : ℤ) → IsLeast (threshold_problem_of matrix.now) z n
+        → IsLeast (problem_of matrix.now) (take (matrix.now.size - 1) z) n }
+    ensures scale { (z : List ℤ) (n : ℤ) → IsLeast (threshold_problem_of matrix.now) z n
+        → IsLeastScale matrix.now (scale_of (take (matrix.now.size - 1) z)) n }
+    ensures nothing { IsInfeasible (threshold_problem_of matrix.now) ↔ IsInconsistent matrix.now }
+{
+    // The fact that every matrix keeps is told where its size is read.
+    matrix.size();
+}
+
+/// States that a point of a criterion's closed problem is a scale that meets the matrix in unit 0, with good 100 above neutral,
+/// and its room, which is what the span leaves of the reach; and that each unit of at least 0 asks for at least what the unit
+/// 0 asks for. It does nothing.
+pub fn closed_points_are_closed_scales(
+    matrix: &Matrix,
+    good: usize,
+    neutral: usize,
+    reach: u32,
+    a: usize,
+    b: usize,
+)
+    requires { IsPair matrix.now.size good neutral }
+    ensures points { (x : List ℤ) (r n : ℤ) → IsFeasible (closed_problem_of matrix.now good neutral reach a b) (x ++ r ∷ []) n
+        ↔ IsClosedScale matrix.now good neutral reach (scale_of x) r n }
+    ensures units { (w : List ℤ) (u : ℤ) → pos 0 ≤ℤ u → IsMetInUnit matrix.now u w → IsMetInUnit matrix.now (pos 0) w }
 {}

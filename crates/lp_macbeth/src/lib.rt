@@ -1,6 +1,7 @@
 //! Judgements as linear problems over the gaps between neighbouring elements.
 #![tactic(auto)]
 
+mod closed;
 mod gap_rows;
 mod gaps;
 pub mod laws;
@@ -10,7 +11,11 @@ mod threshold;
 mod threshold_lists;
 mod threshold_tags;
 
+pub use closed::closed_problem;
 pub use frac128::NoMemory;
 pub use gap_rows::{problem, rows};
 pub use threshold::threshold_problem;
 pub use threshold_tags::ThresholdTag;
+
+#[cfg(test)]
+mod tests;

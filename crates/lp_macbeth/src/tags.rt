@@ -4,6 +4,7 @@ ghost use Rattle.std.specs.Prelude.{◌≡◌, ◌++◌, ◌∷◌, [], ◌≤�
 ghost use Rattle.judgement_matrix.specs.Matrix.{IsPair, range_at};
 ghost use Rattle.judgement_matrix.specs.Rows.{rows, order_rows, IsTagAmong};
 ghost use Rattle.judgement_matrix.specs.Walk.{lower_rows_of, zero_rows_of, cross_rows_of};
+ghost use Rattle.lp_macbeth.specs.Closed.{closed_tags as tags_of};
 ghost use Rattle.lp_macbeth.specs.Pairs.{ArePairs};
 ghost use Rattle.lp_macbeth.specs.Rows.{judged_rows};
 
@@ -30,6 +31,18 @@ pub(crate) fn judged_tags(alloc: Global, matrix: &Matrix) -> Result<Vec<Tag>, No
     let pairs = pairs(alloc, matrix.size() as u8)?;
     let mut tags = Vec::new(alloc);
     push_lower(&mut tags, matrix, pairs.as_slice())?;
+    push_zero(&mut tags, matrix, pairs.as_slice())?;
+    push_cross(alloc, &mut tags, matrix, pairs.as_slice())?;
+    Ok(tags)
+}
+
+/// The tags of Zero and Cross.
+pub(crate) fn closed_tags(alloc: Global, matrix: &Matrix) -> Result<Vec<Tag>, NoMemory>
+    ensures tags { IfOk result (λ tags. tags.items ≡ tags_of matrix.now) }
+    ensures among { IfOk result (λ tags. All (IsTagAmong matrix.now.size) tags.items) }
+{
+    let pairs = pairs(alloc, matrix.size() as u8)?;
+    let mut tags = Vec::new(alloc);
     push_zero(&mut tags, matrix, pairs.as_slice())?;
     push_cross(alloc, &mut tags, matrix, pairs.as_slice())?;
     Ok(tags)
