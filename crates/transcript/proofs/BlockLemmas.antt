@@ -1,5 +1,5 @@
 -- The lines of a block, one after another.
-use Rattle.std.proofs.Common.{◌≡◌, ℕ, ◌+◌, ◌-◌, ◌^◌, ◌<◌, ◌≤◌, Bool, true, false, not, cond, ◌&&◌, List, [], ◌∷◌, ◌++◌, length, Option, None, Result, Ok, Err, refl, sym, ap, ◌∙◌, subst, inl, inr, append_assoc, length-append, arith}
+use Rattle.std.proofs.Common.{◌≡◌, ◌⊎◌, ℕ, ◌+◌, ◌-◌, ◌^◌, ◌<◌, ◌≤◌, Bool, true, false, not, cond, ◌&&◌, List, [], ◌∷◌, ◌++◌, length, Option, None, Result, Ok, Err, refl, sym, ap, ◌∙◌, subst, inl, inr, append_assoc, length-append, arith}
 use Rattle.std.specs.Prelude.{nat_le, codes}
 use Rattle.std.specs.Str.{bytes_eq}
 use Rattle.std.specs.List.{flat_map, list_all}
@@ -14,7 +14,8 @@ use Rattle.line_io.specs.Lines.{IsUnbroken, Progress, Splits, Gives, IsOver, wit
 use Rattle.line_io.proofs.OutsideLemmas.{Took-nil, Took-append, Took-same, Rose-earlier}
 use Rattle.line_io.proofs.LinesLemmas.{Splits-shorter}
 use Rattle.transcript.specs.Entries.{closed, is_long, is_end, is_kept, lines_text, block_of}
-use Rattle.line_io.specs.Lines.{Takes}
+use Rattle.line_io.specs.Lines.{Takes, Moves}
+use Rattle.transcript.proofs.EntriesLemmas.{unbroken_or}
 use Rattle.line_io.specs.Outside.{Change, change}
 use Rattle.transcript.specs.Entry.{whole, large}
 use Rattle.transcript.specs.Line.{IsCopied, SaysLine, TakesLine}
@@ -37,7 +38,7 @@ Takes-same p a m within = record {
   end_seen = λ e f. absurd (true≢false (sym f ∙ e));
 }
 
-both_none : (xs ys : List ℕ) → xs ≡ [] → ys ≡ [] → xs ++ ys ≡ []
+pub both_none : (xs ys : List ℕ) → xs ≡ [] → ys ≡ [] → xs ++ ys ≡ []
 both_none xs ys a b = ap (λ (t : List ℕ). t ++ ys) a ∙ b
 
 end_later : (p q r : Progress) (b c : Option (List ℕ)) (n o : ℕ) (ys : List ℕ) → (p.ended ≡ false → q.ended ≡ true → IsAtEnd b × (q.taken < 2 ^ 30)) → Takes q r (change b c n o) ys
@@ -185,6 +186,7 @@ pub record InBlock (old now : Progress) (a b : Option (List ℕ)) (m n : ℕ) (f
   pub no_end : HaveNoEnd inner
   pub fits_is : fits ≡ is_kept inner
   pub copied_is : fits ≡ true → copied ≡ lines_text inner
+  pub none_with_end : (bytes ≡ []) ⊎ LeavesOpen old.in_hand
 
 pub in_block_start : (p : Progress) (a : Option (List ℕ)) (m : ℕ) (copied : List ℕ) → p.fault ≡ None → p.taken ≤ 2 ^ 30 → copied ≡ [] → InBlock p p a a m m true copied
 in_block_start p a m copied no_fault within none = record {
@@ -196,9 +198,13 @@ in_block_start p a m copied no_fault within none = record {
   no_end = refl;
   fits_is = refl;
   copied_is = λ e. none;
+  none_with_end = inl refl;
 }
 
-module _ (old p q : Progress) (a b c : Option (List ℕ)) (m n o : ℕ) (fits : Bool) (copied : List ℕ) (h : InBlock old p a b m n fits copied) (taken : List ℕ) (goes : Takes p q (change b c n o) taken) where
+module _ (old p q : Progress) (a b c : Option (List ℕ)) (m n o : ℕ) (fits : Bool) (copied : List ℕ) (h : InBlock old p a b m n fits copied) (taken : List ℕ) (moves : Moves p q (change b c n o) taken) where
+  goes : Takes p q (change b c n o) taken
+  goes = moves.takes
+
   grouped : (old.in_hand ++ h.bytes) ++ taken ≡ old.in_hand ++ (h.bytes ++ taken)
   grouped = append_assoc old.in_hand h.bytes taken
 
@@ -211,6 +217,29 @@ module _ (old p q : Progress) (a b c : Option (List ℕ)) (m n o : ℕ) (fits : 
       (AreFirst-append p.ended q.ended (old.in_hand ++ h.bytes) taken h.inner (piece ∷ []) p.in_hand q.in_hand h.are goes.none_after_end goes.stays_ended
       (AreFirst-one q.ended (p.in_hand ++ taken) piece q.in_hand splits))
 
+  -- nothing was taken while the block's end was in hand
+  none_now : h.bytes ≡ [] → AreFirst p.ended (old.in_hand ++ h.bytes) h.inner p.in_hand → (h.bytes ++ taken ≡ []) ⊎ LeavesOpen old.in_hand
+  none_now none (inr (seen, over, o)) = inl (both_none h.bytes taken none (goes.none_after_end seen))
+  none_now none (inl (is, each)) = by_hand (unbroken_or p.in_hand)
+    where
+      by_hand : IsUnbroken p.in_hand ⊎ (¬ IsUnbroken p.in_hand) → (h.bytes ++ taken ≡ []) ⊎ LeavesOpen old.in_hand
+      by_hand (inl unbroken) = inr (record {
+        inner = h.inner;
+        rest = p.in_hand;
+        is = sym (append-nil old.in_hand) ∙ ap (λ (t : List ℕ). old.in_hand ++ t) (sym none) ∙ is;
+        each = each;
+        unbroken = unbroken;
+        none = h.no_end;
+      })
+      by_hand (inr broken) = inl (both_none h.bytes taken none (moves.none_with_line broken))
+
+  still_none : (h.bytes ++ taken ≡ []) ⊎ LeavesOpen old.in_hand
+  still_none = by_before h.none_with_end
+    where
+      by_before : (h.bytes ≡ []) ⊎ LeavesOpen old.in_hand → (h.bytes ++ taken ≡ []) ⊎ LeavesOpen old.in_hand
+      by_before (inl none) = none_now none h.are
+      by_before (inr is_open) = inr is_open
+
   pub in_block_more : (P : List ℕ → Type 0) (g : Gives p q (p.in_hand ++ taken) P) (kept : Bool) (now : List ℕ) → is_end g.piece ≡ false → kept ≡ is_kept (h.inner ++ g.piece ∷ [])
       → (kept ≡ true → now ≡ lines_text (h.inner ++ g.piece ∷ [])) → InBlock old q a c m o kept now
   in_block_more P g kept now other kept_is now_is = record {
@@ -222,6 +251,7 @@ module _ (old p q : Progress) (a b c : Option (List ℕ)) (m n o : ℕ) (fits : 
     no_end = HaveNoEnd-append h.inner g.piece h.no_end other;
     fits_is = kept_is;
     copied_is = now_is;
+    none_with_end = still_none;
   }
 
   pub in_block_long : Gives p q (p.in_hand ++ taken) (λ piece. 65536 < length piece) → InBlock old q a c m o false copied
@@ -251,6 +281,7 @@ module _ (old p q : Progress) (a b c : Option (List ℕ)) (m n o : ℕ) (fits : 
       record {
         bytes = h.bytes ++ taken;
         goes = all_goes;
+        none_with_end = still_none;
         says = (
           g.no_fault,
           subst IsBlock (sym is) k.0,
@@ -277,6 +308,7 @@ module _ (old p q : Progress) (a b c : Option (List ℕ)) (m n o : ℕ) (fits : 
   block_cut over = record {
     bytes = h.bytes ++ taken;
     goes = all_goes;
+    none_with_end = still_none;
     says = (
       over.no_fault,
       tt,
@@ -302,16 +334,17 @@ module _ (old p q : Progress) (a b c : Option (List ℕ)) (m n o : ℕ) (fits : 
   block_fails_by line Read f = record {
     bytes = h.bytes ++ taken;
     goes = all_goes;
+    none_with_end = still_none;
     says = (Rose-earlier m n o h.goes.faults f.rose, f.not_ended, f.below_limit, still_open f.no_line f.not_ended);
   }
-  block_fails_by line Limit f = record { bytes = h.bytes ++ taken; goes = all_goes; says = (f.at_limit, f.not_ended, still_open f.no_line f.not_ended) }
-  block_fails_by line Memory f = record { bytes = h.bytes ++ taken; goes = all_goes; says = tt }
+  block_fails_by line Limit f = record { bytes = h.bytes ++ taken; goes = all_goes; none_with_end = still_none; says = (f.at_limit, f.not_ended, still_open f.no_line f.not_ended) }
+  block_fails_by line Memory f = record { bytes = h.bytes ++ taken; goes = all_goes; none_with_end = still_none; says = tt }
 
   pub block_fails : (line : List ℕ) (answer : Result Piece EntryFault) (fault : EntryFault) → SaysLine p q (change b c n o) (p.in_hand ++ taken) line answer → answer ≡ Err fault → ReadsBlock old q (change a c m o) copied (Err fault)
   block_fails line answer fault says is = block_fails_by line fault (subst (SaysLine p q (change b c n o) (p.in_hand ++ taken) line) is says)
 
   pub block_memory : (now : List ℕ) → ReadsBlock old q (change a c m o) now (Err Memory)
-  block_memory now = record { bytes = h.bytes ++ taken; goes = all_goes; says = tt }
+  block_memory now = record { bytes = h.bytes ++ taken; goes = all_goes; none_with_end = still_none; says = tt }
 
 -- the measure of the loop
 pub line_smaller : (p q : Progress) (b c : Option (List ℕ)) (n o : ℕ) (taken : List ℕ) (P : List ℕ → Type 0) → Takes p q (change b c n o) taken → Gives p q (p.in_hand ++ taken) P

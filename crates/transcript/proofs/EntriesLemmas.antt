@@ -18,6 +18,16 @@ pub record Cut (bytes : List ℕ) : Type 0 where
 IsUnbroken-cons : (b : ℕ) (bytes : List ℕ) → b ≢ 10 → IsUnbroken bytes → IsUnbroken (b ∷ bytes)
 IsUnbroken-cons b bytes other h = All-cons (λ b. b ≢ 10) b bytes other h
 
+-- a list is unbroken or not
+pub unbroken_or : (bytes : List ℕ) → IsUnbroken bytes ⊎ (¬ IsUnbroken bytes)
+unbroken_or [] = inl (All-nil (λ b. b ≢ 10))
+unbroken_or (b ∷ bytes) = by_first (cases_eq b 10) (unbroken_or bytes)
+  where
+    by_first : (b ≡ 10) ⊎ (b ≢ 10) → IsUnbroken bytes ⊎ (¬ IsUnbroken bytes) → IsUnbroken (b ∷ bytes) ⊎ (¬ IsUnbroken (b ∷ bytes))
+    by_first (inl newline) rest = inr (λ h. h 0 0 (omega arith) newline)
+    by_first (inr other) (inl unbroken) = inl (IsUnbroken-cons b bytes other unbroken)
+    by_first (inr other) (inr broken) = inr (λ h. broken (λ k d lt. h (suc k) d (omega arith)))
+
 -- one byte more in front
 cut_cons : (b : ℕ) (bytes : List ℕ) → b ≢ 10 → (pieces : List (List ℕ)) (rest : List ℕ) → AreLines bytes pieces rest → Cut (b ∷ bytes)
 cut_cons b bytes other [] rest h =

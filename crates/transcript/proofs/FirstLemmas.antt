@@ -9,7 +9,7 @@ use Rattle.line_io.specs.Lines.{IsUnbroken, Progress, Splits, Gives, IsOver, wit
 use Rattle.line_io.proofs.OutsideLemmas.{Rose-earlier}
 use Rattle.line_io.proofs.LinesLemmas.{Splits-shorter}
 use Rattle.transcript.specs.Entry.{Entry, Block, too_long, line, with_block, whole, large, cut}
-use Rattle.line_io.specs.Lines.{Takes}
+use Rattle.line_io.specs.Lines.{Takes, Moves}
 use Rattle.line_io.specs.Outside.{Change, change}
 use Rattle.transcript.specs.Line.{IsCopied, SaysLine}
 use Rattle.transcript.specs.Entries.{closed, is_end, entry_of, Place, between, inside, opens, cut_entry, entries_from, place_after, block_of, AreEntries, IsFirst}
@@ -22,7 +22,7 @@ use Rattle.transcript.specs.declared.piece.EntryFault.{EntryFault}
 use Rattle.transcript.specs.declared.piece.EntryFault.TheVariants.{Read, Limit, Memory}
 use Rattle.transcript.specs.declared.piece.Piece.{Piece}
 use Rattle.transcript.proofs.EntriesLemmas.{entries_from-append, place_after-append}
-use Rattle.transcript.proofs.BlockLemmas.{Takes-append, AreFirst-append, AreFirst-one, long_is, short_is}
+use Rattle.transcript.proofs.BlockLemmas.{both_none, Takes-append, AreFirst-append, AreFirst-one, long_is, short_is}
 
 no_parts : (a b : Bool) → (a || b) ≡ false → (a ≡ false) × (b ≡ false)
 no_parts true b h = absurd (true≢false h)
@@ -142,13 +142,21 @@ module _ (takes : List ℕ → Bool) where
   no_opens : (piece : List ℕ) → 65536 < length piece → opens takes piece ≡ false
   no_opens piece long = ap (λ (b : Bool). not b && takes (without_return piece)) (long_is piece long)
 
-  module _ (p q : Progress) (b c : Option (List ℕ)) (n o : ℕ) (copied : List ℕ) (taken : List ℕ) (goes : Takes p q (change b c n o) taken) where
+  module _ (p q : Progress) (b c : Option (List ℕ)) (n o : ℕ) (copied : List ℕ) (taken : List ℕ) (moves : Moves p q (change b c n o) taken) where
+    goes : Takes p q (change b c n o) taken
+    goes = moves.takes
+
+    -- nothing is taken where a whole line is in hand
+    none_now : ¬ AreEntries takes false p.in_hand [] → taken ≡ []
+    none_now some = moves.none_with_line (λ unbroken. some (none_plain p.in_hand unbroken))
+
     -- a piece that is an entry by itself is the next entry
     gives_plain : (piece : List ℕ) (entry : Entry) → q.fault ≡ None → Splits q.ended (p.in_hand ++ taken) piece q.in_hand → opens takes piece ≡ false → entry_of piece ≡ entry
         → ReadsEntry takes p q (change b c n o) entry (Ok Found)
     gives_plain piece entry no_fault splits plain is = record {
       bytes = taken;
       goes = goes;
+      none_with_entry = none_now;
       says = record {
         no_fault = no_fault;
         first = subst (λ (e : Entry). IsFirst takes q.ended (p.in_hand ++ taken) e q.in_hand) is (first_plain q.ended (p.in_hand ++ taken) piece q.in_hand splits plain);
@@ -166,16 +174,17 @@ module _ (takes : List ℕ → Bool) where
         (ap (λ (t : Bool). cond t too_long (line (without_return g.piece))) (short_is g.piece g.is.0) ∙ ap line (sym g.is.1))
 
     pub says_over : (entry : Entry) → IsOver p q (p.in_hand ++ taken) → ReadsEntry takes p q (change b c n o) entry (Ok End)
-    says_over entry over = record { bytes = taken; goes = goes; says = over }
+    says_over entry over = record { bytes = taken; goes = goes; none_with_entry = none_now; says = over }
 
     fails_by : (entry : Entry) (fault : EntryFault) → SaysLine p q (change b c n o) (p.in_hand ++ taken) copied (Err fault) → ReadsEntry takes p q (change b c n o) entry (Err fault)
     fails_by entry Read f = record {
       bytes = taken;
       goes = goes;
+      none_with_entry = none_now;
       says = record { rose = f.rose; no_entry = none_plain (p.in_hand ++ taken) f.no_line; not_ended = f.not_ended; below_limit = f.below_limit };
     }
-    fails_by entry Limit f = record { bytes = taken; goes = goes; says = record { at_limit = f.at_limit; no_entry = none_plain (p.in_hand ++ taken) f.no_line; not_ended = f.not_ended } }
-    fails_by entry Memory f = record { bytes = taken; goes = goes; says = tt }
+    fails_by entry Limit f = record { bytes = taken; goes = goes; none_with_entry = none_now; says = record { at_limit = f.at_limit; no_entry = none_plain (p.in_hand ++ taken) f.no_line; not_ended = f.not_ended } }
+    fails_by entry Memory f = record { bytes = taken; goes = goes; none_with_entry = none_now; says = tt }
 
     pub fails_first : (entry : Entry) (answer : Result Piece EntryFault) (fault : EntryFault) → SaysLine p q (change b c n o) (p.in_hand ++ taken) copied answer → answer ≡ Err fault
         → ReadsEntry takes p q (change b c n o) entry (Err fault)
@@ -219,10 +228,28 @@ module _ (takes : List ℕ → Bool) where
       ends_length stream b (inl e) = AreFirst-length r.ended stream (e.inner ++ e.last ∷ []) r.in_hand e.are
       ends_length stream b (inr e) = omega (arith, ap length e.over)
 
+      -- nothing is taken where a line with its whole block is in hand
+      none_in_block : (more : List ℕ) → Takes q r (change c d o l) more → (more ≡ []) ⊎ LeavesOpen q.in_hand → ¬ AreEntries takes false p.in_hand [] → taken ++ more ≡ []
+      none_in_block more next (inl none) some = both_none taken more (none_now some) none
+      none_in_block more next (inr is_open) some = by_ended q.ended refl
+        where
+          nothing : (p.in_hand ++ taken) ++ [] ≡ p.in_hand
+          nothing = append-nil (p.in_hand ++ taken) ∙ ap (λ (t : List ℕ). p.in_hand ++ t) (none_now some) ∙ append-nil p.in_hand
+
+          no_entry : q.ended ≡ false → AreEntries takes false ((p.in_hand ++ taken) ++ []) []
+          no_entry e =
+              none_open q.ended (p.in_hand ++ taken) g.piece q.in_hand [] (AreFirst-one q.ended (p.in_hand ++ taken) g.piece q.in_hand g.splits) e opening_takes
+              (subst LeavesOpen (sym (append-nil q.in_hand)) is_open)
+
+          by_ended : (ended : Bool) → q.ended ≡ ended → taken ++ more ≡ []
+          by_ended true e = both_none taken more (none_now some) (next.none_after_end e)
+          by_ended false e = absurd (some (subst (λ (s : List ℕ). AreEntries takes false s []) nothing (no_entry e)))
+
       pub gives_block : (kind : Kind) → ReadsBlock q r (change c d o l) block (Ok kind) → ReadsEntry takes p r (change b d n l) (entry_of_kind kind copied block) (Ok Found)
       gives_block kind h = record {
         bytes = taken ++ h.bytes;
         goes = all_goes h.bytes h.goes;
+        none_with_entry = none_in_block h.bytes h.goes h.none_with_end;
         says = record {
           no_fault = h.says.0;
           first = subst (λ (e : Entry). IsFirst takes r.ended (p.in_hand ++ (taken ++ h.bytes)) e r.in_hand) (with_kind kind h.says.1)
@@ -256,6 +283,7 @@ module _ (takes : List ℕ → Bool) where
       fails_inside entry Read h = record {
         bytes = taken ++ h.bytes;
         goes = all_goes h.bytes h.goes;
+        none_with_entry = none_in_block h.bytes h.goes h.none_with_end;
         says = record {
           rose = Rose-earlier n o l goes.faults h.says.0;
           no_entry = open_none h.bytes h.goes h.says.1 h.says.3;
@@ -266,6 +294,7 @@ module _ (takes : List ℕ → Bool) where
       fails_inside entry Limit h = record {
         bytes = taken ++ h.bytes;
         goes = all_goes h.bytes h.goes;
+        none_with_entry = none_in_block h.bytes h.goes h.none_with_end;
         says = record { at_limit = h.says.0; no_entry = open_none h.bytes h.goes h.says.1 h.says.2; not_ended = h.says.1 };
       }
-      fails_inside entry Memory h = record { bytes = taken ++ h.bytes; goes = all_goes h.bytes h.goes; says = tt }
+      fails_inside entry Memory h = record { bytes = taken ++ h.bytes; goes = all_goes h.bytes h.goes; none_with_entry = none_in_block h.bytes h.goes h.none_with_end; says = tt }

@@ -88,6 +88,8 @@ SaysBlock new source stream bytes (Err Memory) = Unit {0}
 pub record ReadsBlock (old new : Progress) (source : Change) (copied : List ℕ) (answer : Result Kind EntryFault) : Type 0 where
   pub bytes : List ℕ
   pub goes : Takes old new source bytes
+  -- none where the block's end was in hand
+  pub none_with_end : (bytes ≡ []) ⊎ LeavesOpen old.in_hand
   pub says : SaysBlock new source (old.in_hand ++ bytes) copied answer
 
 -- a line was copied behind those of a block, unless the block is too large

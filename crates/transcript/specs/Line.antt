@@ -1,7 +1,7 @@
 -- What a call that copies the next line does.
 use Rattle.std.specs.Prelude.{ℕ, ◌≡◌, ◌<◌, ◌≤◌, List, ◌++◌, length, Result, Ok, Err}
 use Rattle.line_io.specs.Outside.{Change}
-use Rattle.line_io.specs.Lines.{Progress, Takes, Moves, Gives, IsOver, FailsToRead, ReachesLimit, without_return}
+use Rattle.line_io.specs.Lines.{Progress, Moves, Gives, IsOver, FailsToRead, ReachesLimit, without_return}
 use Rattle.line_io.specs.declared.lines.TheConstants.{LINE_LIMIT}
 use Rattle.transcript.specs.declared.piece.Piece.{Piece}
 use Rattle.transcript.specs.declared.piece.Piece.TheVariants.{Line, TooLong, End}
@@ -23,5 +23,5 @@ SaysLine old new source stream into (Err Memory) = Unit {0}
 -- the next line was taken, and copied
 pub record TakesLine (old new : Progress) (source : Change) (into : List ℕ) (answer : Result Piece EntryFault) : Type 0 where
   pub bytes : List ℕ
-  pub goes : Takes old new source bytes
+  pub moves : Moves old new source bytes
   pub says : SaysLine old new source (old.in_hand ++ bytes) into answer

@@ -51,6 +51,8 @@ pub record ReadsEntry (takes : List ℕ → Bool) (old new : Progress) (source :
   -- the bytes that were taken
   pub bytes : List ℕ
   pub goes : Takes old new source bytes
+  -- none where a whole entry was in hand
+  pub none_with_entry : ¬ AreEntries takes false old.in_hand [] → bytes ≡ []
   pub says : SaysEntry takes old new source (old.in_hand ++ bytes) entry answer
 
 -- how far a reader of entries has come, the entry that it gave last, and the fault that is answered from now on
