@@ -85,6 +85,10 @@ fn make_room(block: &mut Vec<u8>, needed: usize) -> Result<(), NoMemory>
     if needed <= block.capacity() {
         return Ok(());
     }
-    let room = block.capacity().saturating_mul(2).max(needed).min(BLOCK_LIMIT);
+    let room = block
+        .capacity()
+        .saturating_mul(2)
+        .max(needed)
+        .min(BLOCK_LIMIT);
     block.reserve_exact(room - block.len())
 }

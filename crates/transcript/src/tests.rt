@@ -15,11 +15,13 @@ struct Tally {
 }
 
 impl Model for Tally {
-    ghost use Rattle.std.specs.Prelude.{ℕ};
+    ghost use Rattle.std.specs.Prelude.{ℕ, ◌≤◌};
 
     ghost Value = { ℕ };
 
     ghost view = { λ t. t.count };
+
+    ghost invariant = { λ t. t.count ≤ 9 };
 }
 
 impl Service for Tally {
@@ -91,15 +93,24 @@ fn tallied(
 fn blocks(rt: HostRuntime) -> Result<(), Fail> {
     let alloc = rt.alloc();
     for (input, want) in [
-        (b"a\n!b\nx\r\ny\nend\nc\n".as_slice(), b"0line\n1x\ny\n2line\n".as_slice()),
+        (
+            b"a\n!b\nx\r\ny\nend\nc\n".as_slice(),
+            b"0line\n1x\ny\n2line\n".as_slice(),
+        ),
         (b"!b\nend".as_slice(), b"0".as_slice()),
         (b"!b\r\nend\r\na".as_slice(), b"01line\n".as_slice()),
         (b"!b\nend \nend\n".as_slice(), b"0end \n".as_slice()),
-        (b"!b\n end\nEnd\n\nend\n".as_slice(), b"0 end\nEnd\n\n".as_slice()),
+        (
+            b"!b\n end\nEnd\n\nend\n".as_slice(),
+            b"0 end\nEnd\n\n".as_slice(),
+        ),
         (b"!b\nx\nen".as_slice(), b"0cut\n".as_slice()),
         (b"!b".as_slice(), b"0cut\n".as_slice()),
         (b"end\nend\n".as_slice(), b"0line\n1line\n".as_slice()),
-        (b"!b\n!c\nquit\nend\nquit\na\n".as_slice(), b"0!c\nquit\n1line\n".as_slice()),
+        (
+            b"!b\n!c\nquit\nend\nquit\na\n".as_slice(),
+            b"0!c\nquit\n1line\n".as_slice(),
+        ),
         (b"!b\n!c\nend\nend\n".as_slice(), b"0!c\n1line\n".as_slice()),
     ] {
         // Takes of every length: blocks are cut at every byte.
@@ -153,14 +164,63 @@ fn limits(rt: HostRuntime) -> Result<(), Fail> {
     let alloc = rt.alloc();
     for (count, len, end, rest, written, last) in [
         // 16 times 65,536 bytes are the limit, with or without carriage returns.
-        (16, 65_535, b"\n".as_slice(), b"end\n".as_slice(), 1_048_577, b"xx\n".as_slice()),
-        (16, 65_535, b"\r\n".as_slice(), b"end\n".as_slice(), 1_048_577, b"xx\n".as_slice()),
-        (16, 65_535, b"\n".as_slice(), b"\nend\n".as_slice(), 7, b"ge\n".as_slice()),
+        (
+            16,
+            65_535,
+            b"\n".as_slice(),
+            b"end\n".as_slice(),
+            1_048_577,
+            b"xx\n".as_slice(),
+        ),
+        (
+            16,
+            65_535,
+            b"\r\n".as_slice(),
+            b"end\n".as_slice(),
+            1_048_577,
+            b"xx\n".as_slice(),
+        ),
+        (
+            16,
+            65_535,
+            b"\n".as_slice(),
+            b"\nend\n".as_slice(),
+            7,
+            b"ge\n".as_slice(),
+        ),
         // A large block is read to its end, and one that is cut is cut.
-        (1, 65_537, b"\n".as_slice(), b"quit\nend\na\n".as_slice(), 13, b"ne\n".as_slice()),
-        (17, 65_535, b"\n".as_slice(), b"x\nend\r\na".as_slice(), 13, b"ne\n".as_slice()),
-        (1, 65_537, b"\n".as_slice(), b"en".as_slice(), 5, b"ut\n".as_slice()),
-        (17, 65_535, b"\n".as_slice(), b"".as_slice(), 5, b"ut\n".as_slice()),
+        (
+            1,
+            65_537,
+            b"\n".as_slice(),
+            b"quit\nend\na\n".as_slice(),
+            13,
+            b"ne\n".as_slice(),
+        ),
+        (
+            17,
+            65_535,
+            b"\n".as_slice(),
+            b"x\nend\r\na".as_slice(),
+            13,
+            b"ne\n".as_slice(),
+        ),
+        (
+            1,
+            65_537,
+            b"\n".as_slice(),
+            b"en".as_slice(),
+            5,
+            b"ut\n".as_slice(),
+        ),
+        (
+            17,
+            65_535,
+            b"\n".as_slice(),
+            b"".as_slice(),
+            5,
+            b"ut\n".as_slice(),
+        ),
     ] {
         let mut source = NeverSource::make(block_of(alloc, count, len, end, rest)?);
         let mut sink = MemSink::make(alloc, 2_000_000, 65_536, Vec::new(alloc))?;
@@ -177,12 +237,24 @@ fn a_reader_of_entries(rt: HostRuntime) -> Result<(), Fail> {
     let alloc = rt.alloc();
     let mut source = MemSource::make(b"a\n!b\nx\nend\n".to_vec(alloc)?, 100, vec![in alloc; 2]?);
     let mut reader = Reader::make(alloc)?;
-    assert_eq!(rt; reader.next::<Tally, MemSource>(&mut source), Ok(Next::Found));
+    assert_eq!(rt;
+        reader.next::<Tally, MemSource>(&mut source),
+        Ok(Next::Found)
+    );
     assert_eq!(rt; reader.entry().shape(), Shape::Line(b"a"));
-    assert_eq!(rt; reader.next::<Tally, MemSource>(&mut source), Ok(Next::Found));
+    assert_eq!(rt;
+        reader.next::<Tally, MemSource>(&mut source),
+        Ok(Next::Found)
+    );
     assert_eq!(rt; reader.entry().shape(), Shape::Whole(b"!b", b"x\n"));
-    assert_eq!(rt; reader.next::<Tally, MemSource>(&mut source), Err(EntryFault::Read));
-    assert_eq!(rt; reader.next::<Tally, MemSource>(&mut source), Err(EntryFault::Read));
+    assert_eq!(rt;
+        reader.next::<Tally, MemSource>(&mut source),
+        Err(EntryFault::Read)
+    );
+    assert_eq!(rt;
+        reader.next::<Tally, MemSource>(&mut source),
+        Err(EntryFault::Read)
+    );
     Ok(())
 }
 
