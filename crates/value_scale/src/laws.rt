@@ -1,0 +1,23 @@
+//! Laws of the definitions, as contracts of functions that do nothing.
+
+ghost use Rattle.std.specs.Prelude.{◌≡◌, ℕ, List, ℤ, pos, length, ◌<ℤ◌, ◌≤ℤ◌};
+ghost use Rattle.integers.specs.Fraction.{over, SameFractions};
+ghost use Rattle.judgement_matrix.specs.Matrix.{IsPair};
+ghost use Rattle.judgement_matrix.specs.Scale.{value_at};
+ghost use Rattle.value_scale.specs.Anchor.{IsAnchoredScale, AreReferences};
+
+/// States that a scale has at most one anchored scale for two references. It does nothing.
+pub fn one_anchored_scale()
+    ensures { (w : List ℤ) (n : ℤ) (good neutral : ℕ) (v x : List ℤ) (k l : ℤ) → pos 0 <ℤ n
+        → AreReferences (length w) good neutral → IsAnchoredScale w n good neutral v k
+        → IsAnchoredScale w n good neutral x l → SameFractions (over v k) (over x l) }
+{}
+
+/// States that an anchored scale has as many values as the scale, and orders any two as the scale does. It does nothing.
+pub fn anchored_values_fall()
+    ensures each { (w : List ℤ) (n : ℤ) (good neutral : ℕ) (v : List ℤ) (k : ℤ)
+        → IsAnchoredScale w n good neutral v k → length v ≡ length w }
+    ensures fall { (w : List ℤ) (n : ℤ) (good neutral : ℕ) (v : List ℤ) (k : ℤ) (p q : ℕ) → pos 0 <ℤ n
+        → IsAnchoredScale w n good neutral v k → IsPair (length w) p q
+        → value_at w q ≤ℤ value_at w p → value_at v q ≤ℤ value_at v p }
+{}
