@@ -93,7 +93,17 @@ Seeking-start p a m held within no_fault is room = record {
 pub Seeking-bound : (old new : Progress) (a b : Option (List ℕ)) (m n dropped searched held : ℕ)
     → Seeking old new a b m n dropped searched held → dropped + held < 2 ^ 31
 Seeking-bound old new a b m n dropped searched held h =
-    omega (arith, ap length h.sought.split, length-append old.in_hand h.bytes, length-append h.sought.gone new.in_hand, h.sought.count, h.held_is, h.moves.takes.counted, h.moves.takes.within, h.room_before)
+    omega (
+      arith,
+      ap length h.sought.split,
+      length-append old.in_hand h.bytes,
+      length-append h.sought.gone new.in_hand,
+      h.sought.count,
+      h.held_is,
+      h.moves.takes.counted,
+      h.moves.takes.within,
+      h.room_before,
+    )
 
 -- with no newline behind what was searched there is none in hand
 pub Seeking-no_line : (old new : Progress) (a b : Option (List ℕ)) (m n dropped searched held : ℕ)
@@ -268,7 +278,8 @@ pub Seeking-take : (old mid new : Progress) (a b c : Option (List ℕ)) (m n k d
 Seeking-take old mid new a b c m n k dropped held count h none short going below gains counted most within ended at_end later fault =
     let started : old.ended ≡ true → ⊥ = λ was. let is = h.moves.takes.stays_ended was in cc in
     let unbroken = IsUnbroken-left old.in_hand h.bytes (Seeking-unbroken old mid a b m n dropped held held h none) in
-    let front : take held new.in_hand ≡ mid.in_hand = ap (take held) gains.behind ∙ take-append-le held mid.in_hand gains.bytes (omega (arith, h.held_is)) ∙ take_all held mid.in_hand (omega (arith, h.held_is)) in record {
+    let front : take held new.in_hand ≡ mid.in_hand = ap (take held) gains.behind ∙ take-append-le held mid.in_hand gains.bytes (omega (arith, h.held_is))
+    ∙ take_all held mid.in_hand (omega (arith, h.held_is)) in record {
       bytes = h.bytes ++ gains.bytes;
       moves = record {
         takes = record {

@@ -3,7 +3,7 @@ use Rattle.std.specs.Prelude.{◌≡◌, ℕ, Bool, true, false, List, [], Optio
 use Rattle.session_edits.specs.State.{State}
 use Rattle.session_edits.specs.Reading.{command_of, IsCommand}
 use Rattle.session_edits.specs.Reply.{reply_text, refused, IsPrintable}
-use Rattle.session_edits.specs.Answer.{Answer, AnswersParsed, Entry as SessionEntry, too_long as session_too_long, line as session_line}
+use Rattle.session_edits.specs.Answer.{Answer, Entry as SessionEntry, too_long as session_too_long, line as session_line}
 use Rattle.session_edits.specs.declared.command.Command.{Command}
 use Rattle.session_edits.specs.declared.command.Command.TheVariants.{Quit}
 use Rattle.session_edits.specs.declared.command.Parsed.{Parsed}

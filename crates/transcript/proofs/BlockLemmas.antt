@@ -16,10 +16,10 @@ use Rattle.line_io.proofs.LinesLemmas.{Splits-shorter}
 use Rattle.transcript.specs.Entries.{closed, is_long, is_end, is_kept, lines_text, block_of}
 use Rattle.line_io.specs.Lines.{Takes, Moves}
 use Rattle.transcript.proofs.EntriesLemmas.{unbroken_or}
-use Rattle.line_io.specs.Outside.{Change, change}
+use Rattle.line_io.specs.Outside.{change}
 use Rattle.transcript.specs.Entry.{whole, large}
 use Rattle.transcript.specs.Line.{IsCopied, SaysLine, TakesLine}
-use Rattle.transcript.specs.Block.{AreOpenEnded, AreFirst, HaveNoEnd, EndsByEnd, EndsWithInput, LeavesOpen, IsBlock, block_of_kind, ReadsBlock, CopiesLine}
+use Rattle.transcript.specs.Block.{AreFirst, HaveNoEnd, LeavesOpen, IsBlock, block_of_kind, ReadsBlock, CopiesLine}
 use Rattle.transcript.specs.declared.entry.Kind.{Kind}
 use Rattle.transcript.specs.declared.entry.Kind.TheVariants.{Whole, Cut, Large}
 use Rattle.transcript.specs.declared.piece.Piece.{Piece}
@@ -41,7 +41,8 @@ Takes-same p a m within = record {
 pub both_none : (xs ys : List ℕ) → xs ≡ [] → ys ≡ [] → xs ++ ys ≡ []
 both_none xs ys a b = ap (λ (t : List ℕ). t ++ ys) a ∙ b
 
-end_later : (p q r : Progress) (b c : Option (List ℕ)) (n o : ℕ) (ys : List ℕ) → (p.ended ≡ false → q.ended ≡ true → IsAtEnd b × (q.taken < 2 ^ 30)) → Takes q r (change b c n o) ys
+end_later : (p q r : Progress) (b c : Option (List ℕ)) (n o : ℕ) (ys : List ℕ) → (p.ended ≡ false → q.ended ≡ true → IsAtEnd b × (q.taken < 2 ^ 30))
+    → Takes q r (change b c n o) ys
     → p.ended ≡ false → r.ended ≡ true → IsAtEnd c × (r.taken < 2 ^ 30)
 end_later p q r b c n o ys first next unseen seen = by_middle q.ended refl
   where
@@ -52,7 +53,8 @@ end_later p q r b c n o ys first next unseen seen = by_middle q.ended refl
         (subst IsAtEnd (sym (Took-same b c (subst (Took b c) none next.took))) was.0, omega (arith, next.counted, ap length none, was.1))
     by_middle false e = next.end_seen e seen
 
-pub Takes-append : (p q r : Progress) (a b c : Option (List ℕ)) (m n o : ℕ) (xs ys : List ℕ) → Takes p q (change a b m n) xs → Takes q r (change b c n o) ys → Takes p r (change a c m o) (xs ++ ys)
+pub Takes-append : (p q r : Progress) (a b c : Option (List ℕ)) (m n o : ℕ) (xs ys : List ℕ) → Takes p q (change a b m n) xs → Takes q r (change b c n o) ys
+    → Takes p r (change a c m o) (xs ++ ys)
 Takes-append p q r a b c m n o xs ys first next = record {
   took = Took-append a b c xs ys first.took next.took;
   counted = omega (arith, first.counted, next.counted, length-append xs ys);
@@ -64,10 +66,17 @@ Takes-append p q r a b c m n o xs ys first next = record {
 }
 
 -- the first pieces of a stream, and those behind them
-no_first : (ended : Bool) (stream : List ℕ) (pieces : List (List ℕ)) (rest : List ℕ) → stream ≡ [] → AreFirst ended stream pieces rest → (pieces ≡ []) × (rest ≡ [])
+no_first : (ended : Bool) (stream : List ℕ) (pieces : List (List ℕ)) (rest : List ℕ) → stream ≡ [] → AreFirst ended stream pieces rest
+    → (pieces ≡ []) × (rest ≡ [])
 no_first ended stream [] rest none (inl (is, each)) = (refl, sym is ∙ none)
 no_first ended stream (p ∷ ps) rest none (inl (is, each)) =
-    absurd (omega (arith, ap length (sym none ∙ is), length-append (closed p ++ flat_map closed ps) rest, length-append (closed p) (flat_map closed ps), length-append p (10 ∷ [])))
+    absurd (omega (
+      arith,
+      ap length (sym none ∙ is),
+      length-append (closed p ++ flat_map closed ps) rest,
+      length-append (closed p) (flat_map closed ps),
+      length-append p (10 ∷ []),
+    ))
 no_first ended stream pieces rest none (inr (seen, over, o)) =
     absurd (o.some (no_tail (flat_map closed o.front) o.last (sym o.joined ∙ none)))
   where
@@ -81,7 +90,8 @@ regroup ps qs mid taken rest stream is next =
     ap (λ (t : List ℕ). t ++ taken) is ∙ append_assoc (flat_map closed ps) mid taken ∙ ap (λ (t : List ℕ). flat_map closed ps ++ t) next
     ∙ sym (append_assoc (flat_map closed ps) (flat_map closed qs) rest) ∙ ap (λ (t : List ℕ). t ++ rest) (sym (flat_map-append closed ps qs))
 
-pub AreFirst-append : (before now : Bool) (stream taken : List ℕ) (ps qs : List (List ℕ)) (mid rest : List ℕ) → AreFirst before stream ps mid → (before ≡ true → taken ≡ []) → (before ≡ true → now ≡ true)
+pub AreFirst-append : (before now : Bool) (stream taken : List ℕ) (ps qs : List (List ℕ)) (mid rest : List ℕ) → AreFirst before stream ps mid
+    → (before ≡ true → taken ≡ []) → (before ≡ true → now ≡ true)
     → AreFirst now (mid ++ taken) qs rest → AreFirst now (stream ++ taken) (ps ++ qs) rest
 AreFirst-append before now stream taken ps qs mid rest (inl (is, each)) none stays (inl (next, others)) =
     inl (regroup ps qs mid taken rest stream is next, All-append IsUnbroken ps qs each others)
@@ -144,9 +154,11 @@ short_end piece line h is = rw (h, is) refl
 -- the text of a block, with one line more
 text_more : (ps : List (List ℕ)) (piece : List ℕ) → lines_text (ps ++ piece ∷ []) ≡ lines_text ps ++ closed (without_return piece)
 text_more ps piece =
-    flat_map-append (λ (p : List ℕ). closed (without_return p)) ps (piece ∷ []) ∙ ap (λ (t : List ℕ). lines_text ps ++ t) (append-nil (closed (without_return piece)))
+    flat_map-append (λ (p : List ℕ). closed (without_return p)) ps (piece ∷ [])
+    ∙ ap (λ (t : List ℕ). lines_text ps ++ t) (append-nil (closed (without_return piece)))
 
-all_more : (ps : List (List ℕ)) (piece : List ℕ) → list_all (λ (p : List ℕ). not (is_long p)) (ps ++ piece ∷ []) ≡ (list_all (λ (p : List ℕ). not (is_long p)) ps && (not (is_long piece) && true))
+all_more : (ps : List (List ℕ)) (piece : List ℕ)
+    → list_all (λ (p : List ℕ). not (is_long p)) (ps ++ piece ∷ []) ≡ (list_all (λ (p : List ℕ). not (is_long p)) ps && (not (is_long piece) && true))
 all_more ps piece = list_all-append (λ (p : List ℕ). not (is_long p)) ps (piece ∷ [])
 
 not_true : (b : Bool) → (b ≡ true → ⊥) → b ≡ false
@@ -163,15 +175,19 @@ kept_before : (ps : List (List ℕ)) (piece : List ℕ) → is_kept (ps ++ piece
 kept_before ps piece e =
     let parts = and_parts (list_all (λ (p : List ℕ). not (is_long p)) (ps ++ piece ∷ [])) (nat_le (length (lines_text (ps ++ piece ∷ []))) 1048576) e in
     let len : length (lines_text (ps ++ piece ∷ [])) ≤ 1048576 = leb-true _ _ parts.1 in
-    let low : length (lines_text ps) ≤ 1048576 = omega (arith, len, ap length (text_more ps piece), length-append (lines_text ps) (closed (without_return piece))) in
+    let low : length (lines_text ps) ≤ 1048576 = omega
+    (arith, len, ap length (text_more ps piece), length-append (lines_text ps) (closed (without_return piece))) in
     both_true (and_parts _ _ (sym (all_more ps piece) ∙ parts.0)).0 (le-leb _ _ low)
 
-pub kept_short : (ps : List (List ℕ)) (piece line old : List ℕ) (fits kept : Bool) → is_long piece ≡ false → line ≡ without_return piece → fits ≡ is_kept ps → (fits ≡ true → old ≡ lines_text ps)
+pub kept_short : (ps : List (List ℕ)) (piece line old : List ℕ) (fits kept : Bool) → is_long piece ≡ false → line ≡ without_return piece → fits ≡ is_kept ps
+    → (fits ≡ true → old ≡ lines_text ps)
     → kept ≡ (fits && nat_le (length (old ++ closed line)) 1048576) → kept ≡ is_kept (ps ++ piece ∷ [])
 kept_short ps piece line old true kept short is fits_is old_is kept_is =
-    let first : list_all (λ (p : List ℕ). not (is_long p)) ps ≡ true = (and_parts (list_all (λ (p : List ℕ). not (is_long p)) ps) (nat_le (length (lines_text ps)) 1048576) (sym fits_is)).0 in
+    let first : list_all (λ (p : List ℕ). not (is_long p)) ps ≡
+    true = (and_parts (list_all (λ (p : List ℕ). not (is_long p)) ps) (nat_le (length (lines_text ps)) 1048576) (sym fits_is)).0 in
     let all : list_all (λ (p : List ℕ). not (is_long p)) (ps ++ piece ∷ []) ≡ true = all_more ps piece ∙ rw (short, first) refl in
-    let text : old ++ closed line ≡ lines_text (ps ++ piece ∷ []) = ap (λ (t : List ℕ). t ++ closed line) (old_is refl) ∙ ap (λ (t : List ℕ). lines_text ps ++ closed t) is ∙ sym (text_more ps piece) in
+    let text : old ++ closed line ≡ lines_text (ps ++ piece ∷ []) = ap (λ (t : List ℕ). t ++ closed line) (old_is refl)
+    ∙ ap (λ (t : List ℕ). lines_text ps ++ closed t) is ∙ sym (text_more ps piece) in
     kept_is ∙ ap (λ (t : List ℕ). nat_le (length t) 1048576) text ∙ sym (ap (λ (b : Bool). b && nat_le (length (lines_text (ps ++ piece ∷ []))) 1048576) all)
 kept_short ps piece line old false kept short is fits_is old_is kept_is =
     kept_is ∙ sym (not_true _ (λ e. true≢false (sym (kept_before ps piece e) ∙ sym fits_is)))
@@ -188,7 +204,8 @@ pub record InBlock (old now : Progress) (a b : Option (List ℕ)) (m n : ℕ) (f
   pub copied_is : fits ≡ true → copied ≡ lines_text inner
   pub none_with_end : (bytes ≡ []) ⊎ LeavesOpen old.in_hand
 
-pub in_block_start : (p : Progress) (a : Option (List ℕ)) (m : ℕ) (copied : List ℕ) → p.fault ≡ None → p.taken ≤ 2 ^ 30 → copied ≡ [] → InBlock p p a a m m true copied
+pub in_block_start : (p : Progress) (a : Option (List ℕ)) (m : ℕ) (copied : List ℕ) → p.fault ≡ None → p.taken ≤ 2 ^ 30 → copied ≡ []
+    → InBlock p p a a m m true copied
 in_block_start p a m copied no_fault within none = record {
   inner = [];
   bytes = [];
@@ -201,7 +218,8 @@ in_block_start p a m copied no_fault within none = record {
   none_with_end = inl refl;
 }
 
-module _ (old p q : Progress) (a b c : Option (List ℕ)) (m n o : ℕ) (fits : Bool) (copied : List ℕ) (h : InBlock old p a b m n fits copied) (taken : List ℕ) (moves : Moves p q (change b c n o) taken) where
+module _ (old p q : Progress) (a b c : Option (List ℕ)) (m n o : ℕ) (fits : Bool) (copied : List ℕ) (h : InBlock old p a b m n fits copied) (taken : List ℕ)
+    (moves : Moves p q (change b c n o) taken) where
   goes : Takes p q (change b c n o) taken
   goes = moves.takes
 
@@ -211,7 +229,8 @@ module _ (old p q : Progress) (a b c : Option (List ℕ)) (m n o : ℕ) (fits : 
   all_goes : Takes old q (change a c m o) (h.bytes ++ taken)
   all_goes = Takes-append old p q a b c m n o h.bytes taken h.goes goes
 
-  one_more : (piece : List ℕ) → Splits q.ended (p.in_hand ++ taken) piece q.in_hand → AreFirst q.ended (old.in_hand ++ (h.bytes ++ taken)) (h.inner ++ piece ∷ []) q.in_hand
+  one_more : (piece : List ℕ) → Splits q.ended (p.in_hand ++ taken) piece q.in_hand
+      → AreFirst q.ended (old.in_hand ++ (h.bytes ++ taken)) (h.inner ++ piece ∷ []) q.in_hand
   one_more piece splits =
       subst (λ (s : List ℕ). AreFirst q.ended s (h.inner ++ piece ∷ []) q.in_hand) grouped
       (AreFirst-append p.ended q.ended (old.in_hand ++ h.bytes) taken h.inner (piece ∷ []) p.in_hand q.in_hand h.are goes.none_after_end goes.stays_ended
@@ -240,7 +259,8 @@ module _ (old p q : Progress) (a b c : Option (List ℕ)) (m n o : ℕ) (fits : 
       by_before (inl none) = none_now none h.are
       by_before (inr is_open) = inr is_open
 
-  pub in_block_more : (P : List ℕ → Type 0) (g : Gives p q (p.in_hand ++ taken) P) (kept : Bool) (now : List ℕ) → is_end g.piece ≡ false → kept ≡ is_kept (h.inner ++ g.piece ∷ [])
+  pub in_block_more : (P : List ℕ → Type 0) (g : Gives p q (p.in_hand ++ taken) P) (kept : Bool) (now : List ℕ) → is_end g.piece ≡ false
+      → kept ≡ is_kept (h.inner ++ g.piece ∷ [])
       → (kept ≡ true → now ≡ lines_text (h.inner ++ g.piece ∷ [])) → InBlock old q a c m o kept now
   in_block_more P g kept now other kept_is now_is = record {
     inner = h.inner ++ g.piece ∷ [];
@@ -265,7 +285,8 @@ module _ (old p q : Progress) (a b c : Option (List ℕ)) (m n o : ℕ) (fits : 
       let short = short_is g.piece g.is.0 in
       let kept_is = kept_short h.inner g.piece line copied fits kept short g.is.1 h.fits_is h.copied_is keeps.is in
       in_block_more _ g kept now (short_end g.piece line short g.is.1 ∙ other) kept_is
-      (λ e. keeps.copied e ∙ ap (λ (t : List ℕ). t ++ closed line) (h.copied_is (and_parts _ _ (sym keeps.is ∙ e)).0) ∙ ap (λ (t : List ℕ). lines_text h.inner ++ closed t) g.is.1
+      (λ e. keeps.copied e ∙ ap (λ (t : List ℕ). t ++ closed line) (h.copied_is (and_parts _ _ (sym keeps.is ∙ e)).0) ∙ ap
+      (λ (t : List ℕ). lines_text h.inner ++ closed t) g.is.1
       ∙ sym (text_more h.inner g.piece))
 
   -- the block that was read, by its kind
@@ -330,28 +351,38 @@ module _ (old p q : Progress) (a b c : Option (List ℕ)) (m n o : ℕ) (fits : 
       by_are (inl (is, each)) = record { inner = h.inner; rest = p.in_hand ++ taken; is = is; each = each; unbroken = unbroken; none = h.no_end }
       by_are (inr (seen, over, o)) = absurd (true≢false (sym seen ∙ unseen))
 
-  block_fails_by : (line : List ℕ) (fault : EntryFault) → SaysLine p q (change b c n o) (p.in_hand ++ taken) line (Err fault) → ReadsBlock old q (change a c m o) copied (Err fault)
+  block_fails_by : (line : List ℕ) (fault : EntryFault) → SaysLine p q (change b c n o) (p.in_hand ++ taken) line (Err fault)
+      → ReadsBlock old q (change a c m o) copied (Err fault)
   block_fails_by line Read f = record {
     bytes = h.bytes ++ taken;
     goes = all_goes;
     none_with_end = still_none;
     says = (Rose-earlier m n o h.goes.faults f.rose, f.not_ended, f.below_limit, still_open f.no_line f.not_ended);
   }
-  block_fails_by line Limit f = record { bytes = h.bytes ++ taken; goes = all_goes; none_with_end = still_none; says = (f.at_limit, f.not_ended, still_open f.no_line f.not_ended) }
+  block_fails_by line Limit f = record {
+    bytes = h.bytes ++ taken;
+    goes = all_goes;
+    none_with_end = still_none;
+    says = (f.at_limit, f.not_ended, still_open f.no_line f.not_ended);
+  }
   block_fails_by line Memory f = record { bytes = h.bytes ++ taken; goes = all_goes; none_with_end = still_none; says = tt }
 
-  pub block_fails : (line : List ℕ) (answer : Result Piece EntryFault) (fault : EntryFault) → SaysLine p q (change b c n o) (p.in_hand ++ taken) line answer → answer ≡ Err fault → ReadsBlock old q (change a c m o) copied (Err fault)
+  pub block_fails : (line : List ℕ) (answer : Result Piece EntryFault) (fault : EntryFault) → SaysLine p q (change b c n o) (p.in_hand ++ taken) line answer
+      → answer ≡ Err fault → ReadsBlock old q (change a c m o) copied (Err fault)
   block_fails line answer fault says is = block_fails_by line fault (subst (SaysLine p q (change b c n o) (p.in_hand ++ taken) line) is says)
 
   pub block_memory : (now : List ℕ) → ReadsBlock old q (change a c m o) now (Err Memory)
   block_memory now = record { bytes = h.bytes ++ taken; goes = all_goes; none_with_end = still_none; says = tt }
 
 -- the measure of the loop
-pub line_smaller : (p q : Progress) (b c : Option (List ℕ)) (n o : ℕ) (taken : List ℕ) (P : List ℕ → Type 0) → Takes p q (change b c n o) taken → Gives p q (p.in_hand ++ taken) P
+pub line_smaller : (p q : Progress) (b c : Option (List ℕ)) (n o : ℕ) (taken : List ℕ) (P : List ℕ → Type 0) → Takes p q (change b c n o) taken
+    → Gives p q (p.in_hand ++ taken) P
     → (2 ^ 30 - q.taken) + length q.in_hand < (2 ^ 30 - p.taken) + length p.in_hand
 line_smaller p q b c n o taken P goes g = omega (arith, goes.counted, goes.within, Splits-shorter q.ended _ _ _ g.splits, length-append p.in_hand taken)
 
 -- what was taken, once it is known
-pub line_known : (p q : Progress) (b c : Option (List ℕ)) (n o : ℕ) (line : List ℕ) (answer : Result Piece EntryFault) (piece known : Piece) (t : TakesLine p q (change b c n o) line answer) → answer ≡ Ok piece → piece ≡ known
+pub line_known : (p q : Progress) (b c : Option (List ℕ)) (n o : ℕ) (line : List ℕ) (answer : Result Piece EntryFault) (piece known : Piece)
+    (t : TakesLine p q (change b c n o) line answer) → answer ≡ Ok piece → piece ≡ known
     → SaysLine p q (change b c n o) (p.in_hand ++ t.bytes) line (Ok known)
-line_known p q b c n o line answer piece known t is piece_is = subst (SaysLine p q (change b c n o) (p.in_hand ++ t.bytes) line) (is ∙ ap (λ (x : Piece). Ok x) piece_is) t.says
+line_known p q b c n o line answer piece known t is piece_is = subst (SaysLine p q (change b c n o) (p.in_hand ++ t.bytes) line)
+    (is ∙ ap (λ (x : Piece). Ok x) piece_is) t.says

@@ -1,5 +1,5 @@
 -- What the end of a run tells, for each status.
-use Rattle.std.proofs.Common.{◌≡◌, ◌⊎◌, ℕ, Bool, true, false, List, [], ◌∷◌, ◌++◌, length, Option, Some, None, refl, sym, ap, ◌∙◌, subst, inl, inr, append_assoc, length-append, arith}
+use Rattle.std.proofs.Common.{◌≡◌, ◌⊎◌, ℕ, Bool, true, false, List, [], ◌∷◌, ◌++◌, length, Option, refl, sym, ap, ◌∙◌, subst, inl, inr, append_assoc, length-append, arith}
 use Rattle.std.specs.List.{list_any}
 use Rattle.std.proofs.lemmas.Bool.{true≢false}
 use Rattle.std.proofs.lemmas.List.{append-nil}
@@ -9,7 +9,7 @@ use Rattle.transcript.specs.Rules.{Rules, IsTotal}
 use Rattle.transcript.specs.Entries.{AreEntries}
 use Rattle.transcript.specs.Transcript.{up_to_quit, Answers, Replies, IsTranscript}
 use Rattle.line_io.specs.Lines.{Progress, Takes, IsOver}
-use Rattle.line_io.specs.Outside.{Change, change, Took, Put, Rose, IsAtEnd}
+use Rattle.line_io.specs.Outside.{Change, change, Put, Rose}
 use Rattle.transcript.specs.Reading.{Position, GivesEntry}
 use Rattle.transcript.specs.Turn.{IsAnswered, IsCutShort, Turns}
 use Rattle.transcript.specs.Table.{IsAtTheEnd, MayBeEnded, Tells, IsTold, Runs}
@@ -35,7 +35,8 @@ not_ended_before false after stays unseen = refl
 
 module _ {S : Type 0} (rules : Rules S) (first : S) where
   -- entries without a `quit`, all of them answered
-  all_replies : (entries : List Entry) (text : List ℕ) (state : S) → list_any rules.quits entries ≡ false → Answers rules first entries text state → Replies rules first (up_to_quit rules.quits entries) text
+  all_replies : (entries : List Entry) (text : List ℕ) (state : S) → list_any rules.quits entries ≡ false → Answers rules first entries text state
+      → Replies rules first (up_to_quit rules.quits entries) text
   all_replies entries text state none answers =
       record { last = state; answers = subst (λ (es : List Entry). Answers rules first es text state) (sym (up_to_quit-all rules.quits entries none)) answers }
 
@@ -56,7 +57,8 @@ module _ {S : Type 0} (rules : Rules S) (first : S) where
     };
   }
 
-  module _ (total : IsTotal rules) (source sink : Change) (p q : Position) (b : Option (List ℕ)) (m : ℕ) (held : Option (List ℕ)) (n : ℕ) (s t : S) (reach : Reached rules first source sink p s) (taken : List ℕ)
+  module _ (total : IsTotal rules) (source sink : Change) (p q : Position) (b : Option (List ℕ)) (m : ℕ) (held : Option (List ℕ)) (n : ℕ) (s t : S)
+      (reach : Reached rules first source sink p s) (taken : List ℕ)
       (goes : Takes p.progress q.progress (change source.told_new b source.faults_new m) taken) where
     -- the bytes and the text of all calls
     told_more : (status : Status) (text : List ℕ) → Put sink.told_old held text → Tells rules first status (reach.bytes ++ taken) b text
@@ -74,37 +76,51 @@ module _ {S : Type 0} (rules : Rules S) (first : S) where
 
     may_be : (seen : Bool) → (seen ≡ true → q.progress.ended ≡ true) → MayBeEnded seen (reach.bytes ++ taken) b
     may_be seen if_seen = λ e.
-        at_the_end q.progress b (reach.bytes ++ taken) (ends_more p.progress q.progress source.told_new b source.faults_new m taken reach.ends goes) (if_seen e) counted
+        at_the_end q.progress b (reach.bytes ++ taken) (ends_more p.progress q.progress source.told_new b source.faults_new m taken reach.ends goes)
+        (if_seen e) counted
 
     silently : (status : Status) → Put sink.told_new held [] → Tells rules first status (reach.bytes ++ taken) b reach.text
         → IsTold rules first status (change source.told_old b source.faults_old m) (change sink.told_old held sink.faults_old n)
     silently status silent tells = told_more status reach.text (put_none sink.told_old sink.told_new held reach.text reach.put silent) tells
 
     -- the entries so far are those of the bytes
-    so_far : (ended : Bool) → AreEntries rules.takes_block ended (reach.bytes ++ taken) reach.entries → IsTranscript rules first ended false (reach.bytes ++ taken) reach.text
-    so_far ended are = record { entries = reach.entries; are = are; quit = reach.no_quit; replies = all_replies reach.entries reach.text s reach.no_quit reach.answers }
+    so_far : (ended : Bool) → AreEntries rules.takes_block ended (reach.bytes ++ taken) reach.entries
+        → IsTranscript rules first ended false (reach.bytes ++ taken) reach.text
+    so_far ended are = record {
+      entries = reach.entries;
+      are = are;
+      quit = reach.no_quit;
+      replies = all_replies reach.entries reach.text s reach.no_quit
+          reach.answers;
+    }
 
     -- all entries were given
-    over : IsOver p.progress q.progress (p.progress.in_hand ++ taken) → Put sink.told_new held [] → IsTold rules first Done (change source.told_old b source.faults_old m) (change sink.told_old held sink.faults_old n)
+    over : IsOver p.progress q.progress (p.progress.in_hand ++ taken) → Put sink.told_new held []
+        → IsTold rules first Done (change source.told_old b source.faults_old m) (change sink.told_old held sink.faults_old n)
     over none silent =
         silently Done silent (inl (
           false,
           may_be true (λ e. none.ended) refl,
           so_far true (reads_over rules.takes_block q.progress.ended (reach.bytes ++ taken) reach.entries (p.progress.in_hand ++ taken)
-              (reads_taken rules.takes_block p.progress.ended q.progress.ended reach.bytes taken reach.entries p.progress.in_hand reach.read goes.none_after_end goes.stays_ended) none.nothing_left),
+              (reads_taken rules.takes_block p.progress.ended q.progress.ended reach.bytes taken reach.entries p.progress.in_hand reach.read
+              goes.none_after_end goes.stays_ended) none.nothing_left),
         ))
 
     -- no whole entry was left to answer
-    open_end : q.progress.ended ≡ false → AreEntries rules.takes_block false (p.progress.in_hand ++ taken) [] → IsTranscript rules first false false (reach.bytes ++ taken) reach.text
+    open_end : q.progress.ended ≡ false → AreEntries rules.takes_block false (p.progress.in_hand ++ taken) []
+        → IsTranscript rules first false false (reach.bytes ++ taken) reach.text
     open_end unseen none =
         so_far false (reads_open rules.takes_block q.progress.ended (reach.bytes ++ taken) reach.entries (p.progress.in_hand ++ taken)
-        (reads_taken rules.takes_block p.progress.ended q.progress.ended reach.bytes taken reach.entries p.progress.in_hand reach.read goes.none_after_end goes.stays_ended) unseen none)
+        (reads_taken rules.takes_block p.progress.ended q.progress.ended reach.bytes taken reach.entries p.progress.in_hand reach.read goes.none_after_end
+        goes.stays_ended) unseen none)
 
     -- memory ran out: the text is that of the first entries
-    no_memory : Put sink.told_new held [] → IsTold rules first NoMemory (change source.told_old b source.faults_old m) (change sink.told_old held sink.faults_old n)
+    no_memory : Put sink.told_new held []
+        → IsTold rules first NoMemory (change source.told_old b source.faults_old m) (change sink.told_old held sink.faults_old n)
     no_memory silent =
         let h = goes_on rules.takes_block q.progress.ended (reach.bytes ++ taken) reach.entries (p.progress.in_hand ++ taken)
-        (reads_taken rules.takes_block p.progress.ended q.progress.ended reach.bytes taken reach.entries p.progress.in_hand reach.read goes.none_after_end goes.stays_ended) in
+        (reads_taken rules.takes_block p.progress.ended q.progress.ended reach.bytes taken reach.entries p.progress.in_hand reach.read goes.none_after_end
+        goes.stays_ended) in
         silently NoMemory silent (record {
           ended = h.seen;
           may_be = may_be h.seen h.if_seen;
@@ -113,23 +129,27 @@ module _ {S : Type 0} (rules : Rules S) (first : S) where
           count = length reach.entries;
           replies = record {
             last = s;
-            answers = subst (λ (es : List Entry). Answers rules first es reach.text s) (sym (take_answered rules.quits reach.entries h.more reach.no_quit)) reach.answers;
+            answers = subst (λ (es : List Entry). Answers rules first es reach.text s) (sym (take_answered rules.quits reach.entries h.more reach.no_quit))
+                reach.answers;
           };
         })
 
     -- one entry more was given, and the entries go on behind it
-    further : GivesEntry rules.takes_block q.progress (p.progress.in_hand ++ taken) q.entry → GoesOn rules.takes_block q.progress.ended (reach.bytes ++ taken) (reach.entries ++ q.entry ∷ [])
+    further : GivesEntry rules.takes_block q.progress (p.progress.in_hand ++ taken) q.entry
+        → GoesOn rules.takes_block q.progress.ended (reach.bytes ++ taken) (reach.entries ++ q.entry ∷ [])
     further g =
         goes_on rules.takes_block q.progress.ended (reach.bytes ++ taken) (reach.entries ++ q.entry ∷ []) q.progress.in_hand
         (reads_more rules.takes_block p.progress.ended q.progress.ended reach.bytes taken reach.entries p.progress.in_hand q.entry q.progress.in_hand reach.read
         goes.none_after_end goes.stays_ended g.shorter g.first)
 
     -- a transcript that ends with `quit`
-    by_end : (bytes : List ℕ) (left : Option (List ℕ)) (text : List ℕ) (seen : Bool) → MayBeEnded seen bytes left → IsTranscript rules first seen true bytes text → Tells rules first Done bytes left text
+    by_end : (bytes : List ℕ) (left : Option (List ℕ)) (text : List ℕ) (seen : Bool) → MayBeEnded seen bytes left
+        → IsTranscript rules first seen true bytes text → Tells rules first Done bytes left text
     by_end bytes left text true may transcript = inl (true, may refl, transcript)
     by_end bytes left text false may transcript = inr transcript
 
-    quit : GivesEntry rules.takes_block q.progress (p.progress.in_hand ++ taken) q.entry → IsAnswered rules s q.entry t (call sink held n) true → IsTold rules first Done (change source.told_old b source.faults_old m) (change sink.told_old held sink.faults_old n)
+    quit : GivesEntry rules.takes_block q.progress (p.progress.in_hand ++ taken) q.entry → IsAnswered rules s q.entry t (call sink held n) true
+        → IsTold rules first Done (change source.told_old b source.faults_old m) (change sink.told_old held sink.faults_old n)
     quit g a =
         let text = reach.text ++ a.text in
         let h = further g in
@@ -140,13 +160,15 @@ module _ {S : Type 0} (rules : Rules S) (first : S) where
           quit = has_quit-found rules.quits reach.entries q.entry h.more reach.no_quit a.quit;
           replies = record {
             last = t;
-            answers = subst (λ (es : List Entry). Answers rules first es text t) (sym (up_to_quit-quit rules.quits reach.entries q.entry h.more reach.no_quit a.quit))
+            answers = subst (λ (es : List Entry). Answers rules first es text t)
+                (sym (up_to_quit-quit rules.quits reach.entries q.entry h.more reach.no_quit a.quit))
                 (Answers-append rules first s t reach.entries (q.entry ∷ []) reach.text a.text reach.answers (Answers-one rules s t q.entry a.text a.answer));
           };
         }))
 
     -- a reply was cut short: the text is the start of a transcript
-    cut_short : GivesEntry rules.takes_block q.progress (p.progress.in_hand ++ taken) q.entry → IsCutShort rules s q.entry (call sink held n) → IsTold rules first WriteFault (change source.told_old b source.faults_old m) (change sink.told_old held sink.faults_old n)
+    cut_short : GivesEntry rules.takes_block q.progress (p.progress.in_hand ++ taken) q.entry → IsCutShort rules s q.entry (call sink held n)
+        → IsTold rules first WriteFault (change source.told_old b source.faults_old m) (change sink.told_old held sink.faults_old n)
     cut_short g a =
         let front = a.front in
         let text = reach.text ++ front.written in
@@ -155,11 +177,13 @@ module _ {S : Type 0} (rules : Rules S) (first : S) where
         let tail = answers_exist rules total a.next rest in
         let all = reach.entries ++ q.entry ∷ [] ++ h.more in
         let all_is : up_to_quit rules.quits all ≡ reach.entries ++ (q.entry ∷ rest) =
-        ap (up_to_quit rules.quits) (append_assoc reach.entries (q.entry ∷ []) h.more) ∙ up_to_quit-append rules.quits reach.entries (q.entry ∷ h.more) reach.no_quit
+        ap (up_to_quit rules.quits) (append_assoc reach.entries (q.entry ∷ []) h.more)
+        ∙ up_to_quit-append rules.quits reach.entries (q.entry ∷ h.more) reach.no_quit
         ∙ ap (λ (es : List Entry). reach.entries ++ es) (up_to_quit-cons rules.quits q.entry h.more) in
         let whole : text ++ (front.rest ++ tail.text) ≡ reach.text ++ (a.text ++ tail.text) =
         append_assoc reach.text front.written (front.rest ++ tail.text)
-        ∙ ap (λ (u : List ℕ). reach.text ++ u) (sym (append_assoc front.written front.rest tail.text) ∙ ap (λ (u : List ℕ). u ++ tail.text) (sym front.split)) in
+        ∙ ap (λ (u : List ℕ). reach.text ++ u) (sym (append_assoc front.written front.rest tail.text) ∙ ap (λ (u : List ℕ). u ++ tail.text) (sym front.split))
+        in
         let answers : Answers rules first (reach.entries ++ (q.entry ∷ rest)) (reach.text ++ (a.text ++ tail.text)) tail.next =
         Answers-append rules first s tail.next reach.entries (q.entry ∷ rest) reach.text (a.text ++ tail.text) reach.answers
         (a.text, a.next, tail.text, a.answer, refl, tail.answers) in
@@ -182,8 +206,10 @@ module _ {S : Type 0} (rules : Rules S) (first : S) where
         })
 
   -- the last turn of a run, whatever its status
-  pub ends_told : IsTotal rules → (source sink : Change) (p q : Position) (b : Option (List ℕ)) (m : ℕ) (held : Option (List ℕ)) (n : ℕ) (s t : S) → Reached rules first source sink p s → (status : Status)
-      → Turns rules p q (call source b m) s t (call sink held n) (Ends status) → IsTold rules first status (change source.told_old b source.faults_old m) (change sink.told_old held sink.faults_old n)
+  pub ends_told : IsTotal rules → (source sink : Change) (p q : Position) (b : Option (List ℕ)) (m : ℕ) (held : Option (List ℕ)) (n : ℕ) (s t : S)
+      → Reached rules first source sink p s → (status : Status)
+      → Turns rules p q (call source b m) s t (call sink held n) (Ends status)
+      → IsTold rules first status (change source.told_old b source.faults_old m) (change sink.told_old held sink.faults_old n)
   ends_told total source sink p q b m held n s t reach Done turns = by_turn turns.does
     where
       by_turn : (IsOver p.progress q.progress (p.progress.in_hand ++ turns.bytes) × Put sink.told_new held [])
@@ -209,7 +235,8 @@ module _ {S : Type 0} (rules : Rules S) (first : S) where
   ends_told total source sink p q b m held n s t reach BadWords turns = absurd turns.does
 
   -- its status has its causes
-  rose_read : (source sink : Change) (p q : Position) (b : Option (List ℕ)) (m : ℕ) (held : Option (List ℕ)) (n : ℕ) (s t : S) → Reached rules first source sink p s → (status : Status)
+  rose_read : (source sink : Change) (p q : Position) (b : Option (List ℕ)) (m : ℕ) (held : Option (List ℕ)) (n : ℕ) (s t : S)
+      → Reached rules first source sink p s → (status : Status)
       → Turns rules p q (call source b m) s t (call sink held n) (Ends status) → status ≡ ReadFault → Rose source.faults_old m
   rose_read source sink p q b m held n s t reach ReadFault turns is = Rose-earlier source.faults_old source.faults_new m reach.source_faults turns.does.0.rose
   rose_read source sink p q b m held n s t reach Done turns is = absurd (cc)
@@ -218,7 +245,8 @@ module _ {S : Type 0} (rules : Rules S) (first : S) where
   rose_read source sink p q b m held n s t reach NoMemory turns is = absurd (cc)
   rose_read source sink p q b m held n s t reach InputLimit turns is = absurd (cc)
 
-  rose_write : (source sink : Change) (p q : Position) (b : Option (List ℕ)) (m : ℕ) (held : Option (List ℕ)) (n : ℕ) (s t : S) → Reached rules first source sink p s → (status : Status)
+  rose_write : (source sink : Change) (p q : Position) (b : Option (List ℕ)) (m : ℕ) (held : Option (List ℕ)) (n : ℕ) (s t : S)
+      → Reached rules first source sink p s → (status : Status)
       → Turns rules p q (call source b m) s t (call sink held n) (Ends status) → status ≡ WriteFault → Rose sink.faults_old n
   rose_write source sink p q b m held n s t reach WriteFault turns is = Rose-earlier sink.faults_old sink.faults_new n reach.sink_faults turns.does.1.front.rose
   rose_write source sink p q b m held n s t reach Done turns is = absurd (cc)
@@ -227,7 +255,8 @@ module _ {S : Type 0} (rules : Rules S) (first : S) where
   rose_write source sink p q b m held n s t reach NoMemory turns is = absurd (cc)
   rose_write source sink p q b m held n s t reach InputLimit turns is = absurd (cc)
 
-  pub ends_run : IsTotal rules → (source sink : Change) (p q : Position) (b : Option (List ℕ)) (m : ℕ) (held : Option (List ℕ)) (n : ℕ) (s t : S) → Reached rules first source sink p s → (status : Status)
+  pub ends_run : IsTotal rules → (source sink : Change) (p q : Position) (b : Option (List ℕ)) (m : ℕ) (held : Option (List ℕ)) (n : ℕ) (s t : S)
+      → Reached rules first source sink p s → (status : Status)
       → Turns rules p q (call source b m) s t (call sink held n) (Ends status) → Runs rules first status (later source b m) (later sink held n)
   ends_run total source sink p q b m held n s t reach status turns =
       runs rules first status (later source b m) (later sink held n) (ends_told total source sink p q b m held n s t reach status turns)
@@ -235,4 +264,5 @@ module _ {S : Type 0} (rules : Rules S) (first : S) where
 
   -- nothing happened, since memory ran out
   pub never_runs : (left held : Option (List ℕ)) (m n : ℕ) → Runs rules first NoMemory (change left left m m) (change held held n n)
-  never_runs left held m n = runs rules first NoMemory (change left left m m) (change held held n n) (nothing_told left held m m n n) (λ is. absurd (cc)) (λ is. absurd (cc))
+  never_runs left held m n = runs rules first NoMemory (change left left m m) (change held held n n) (nothing_told left held m m n n) (λ is. absurd (cc))
+      (λ is. absurd (cc))

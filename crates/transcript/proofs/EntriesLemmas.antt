@@ -31,7 +31,12 @@ unbroken_or (b ∷ bytes) = by_first (cases_eq b 10) (unbroken_or bytes)
 -- one byte more in front
 cut_cons : (b : ℕ) (bytes : List ℕ) → b ≢ 10 → (pieces : List (List ℕ)) (rest : List ℕ) → AreLines bytes pieces rest → Cut (b ∷ bytes)
 cut_cons b bytes other [] rest h =
-    record { pieces = []; rest = b ∷ rest; lines = record { joined = ap (λ (t : List ℕ). b ∷ t) h.joined; each = h.each; open_rest = IsUnbroken-cons b rest other h.open_rest } }
+    record {
+      pieces = [];
+      rest = b ∷ rest;
+      lines = record
+          { joined = ap (λ (t : List ℕ). b ∷ t) h.joined; each = h.each; open_rest = IsUnbroken-cons b rest other h.open_rest };
+    }
 cut_cons b bytes other (piece ∷ pieces) rest h =
     record {
       pieces = (b ∷ piece) ∷ pieces;
@@ -80,7 +85,8 @@ first_closed : (p : List ℕ) (ps : List (List ℕ)) (r : List ℕ) → flat_map
 first_closed p ps r = append_assoc (closed p) (flat_map closed ps) r ∙ append_assoc p (10 ∷ []) (flat_map closed ps ++ r)
 
 -- bytes are cut at their newlines in one way
-one_cut : (ps qs : List (List ℕ)) (r s : List ℕ) → All IsUnbroken ps → All IsUnbroken qs → IsUnbroken r → IsUnbroken s → flat_map closed ps ++ r ≡ flat_map closed qs ++ s
+one_cut : (ps qs : List (List ℕ)) (r s : List ℕ) → All IsUnbroken ps → All IsUnbroken qs → IsUnbroken r → IsUnbroken s
+    → flat_map closed ps ++ r ≡ flat_map closed qs ++ s
     → (ps ≡ qs) × (r ≡ s)
 one_cut [] [] r s a b c d e = (refl, e)
 one_cut [] (q ∷ qs) r s a b c d e = absurd (unbroken_not q (flat_map closed qs ++ s) (subst IsUnbroken (e ∙ first_closed q qs s) c))
@@ -103,14 +109,16 @@ module _ (takes : List ℕ → Bool) where
   entries_from-append ended place [] qs = ap (λ (t : List Entry). t ++ entries_from takes ended place qs) (sym (no_cut place))
   entries_from-append ended place (p ∷ ps) qs =
       ap (λ (t : List Entry). completed takes place p ++ t) (entries_from-append ended (after takes place p) ps qs)
-      ∙ sym (append_assoc (completed takes place p) (entries_from takes false (after takes place p) ps) (entries_from takes ended (place_after takes (after takes place p) ps) qs))
+      ∙ sym (append_assoc (completed takes place p) (entries_from takes false (after takes place p) ps)
+      (entries_from takes ended (place_after takes (after takes place p) ps) qs))
 
   pub place_after-append : (place : Place) (ps qs : List (List ℕ)) → place_after takes place (ps ++ qs) ≡ place_after takes (place_after takes place ps) qs
   place_after-append place [] qs = refl
   place_after-append place (p ∷ ps) qs = place_after-append (after takes place p) ps qs
 
   -- pieces that make entries, and what follows them
-  made : (ended : Bool) (ps qs : List (List ℕ)) (entries : List Entry) → Make takes ps entries → entries ++ entries_from takes ended between qs ≡ entries_from takes ended between (ps ++ qs)
+  made : (ended : Bool) (ps qs : List (List ℕ)) (entries : List Entry) → Make takes ps entries
+      → entries ++ entries_from takes ended between qs ≡ entries_from takes ended between (ps ++ qs)
   made ended ps qs entries make =
       ap (λ (t : List Entry). t ++ entries_from takes ended between qs) make.is
       ∙ ap (λ (place : Place). entries_from takes false between ps ++ entries_from takes ended place qs) (sym make.leaves_none_open)
@@ -127,13 +135,15 @@ module _ (takes : List ℕ → Bool) where
   }
 
   -- what follows entries that were made
-  pub follows : (ended : Bool) (pieces : List (List ℕ)) (stream : List ℕ) (entries more : List Entry) → Make takes pieces entries → AreEntries takes ended stream more
+  pub follows : (ended : Bool) (pieces : List (List ℕ)) (stream : List ℕ) (entries more : List Entry) → Make takes pieces entries
+      → AreEntries takes ended stream more
       → AreEntries takes ended (flat_map closed pieces ++ stream) (entries ++ more)
   follows ended pieces stream entries more make are = record {
     pieces = pieces ++ are.pieces;
     rest = are.rest;
     lines = record {
-      joined = ap (λ (t : List ℕ). flat_map closed pieces ++ t) are.lines.joined ∙ sym (append_assoc (flat_map closed pieces) (flat_map closed are.pieces) are.rest)
+      joined = ap (λ (t : List ℕ). flat_map closed pieces ++ t) are.lines.joined
+          ∙ sym (append_assoc (flat_map closed pieces) (flat_map closed are.pieces) are.rest)
           ∙ ap (λ (t : List ℕ). t ++ are.rest) (sym (flat_map-append closed pieces are.pieces));
       each = All-append IsUnbroken pieces are.pieces make.each are.lines.each;
       open_rest = are.lines.open_rest;
@@ -180,7 +190,8 @@ module _ (takes : List ℕ → Bool) where
   reads_none = inl (record { pieces = []; joined = refl; make = Make-nil })
 
   -- more bytes were taken
-  joined_more : (pieces : List (List ℕ)) (hand taken stream bytes : List ℕ) → bytes ≡ flat_map closed pieces ++ hand → hand ++ taken ≡ stream → bytes ++ taken ≡ flat_map closed pieces ++ stream
+  joined_more : (pieces : List (List ℕ)) (hand taken stream bytes : List ℕ) → bytes ≡ flat_map closed pieces ++ hand → hand ++ taken ≡ stream
+      → bytes ++ taken ≡ flat_map closed pieces ++ stream
   joined_more pieces hand taken stream bytes joined is =
       ap (λ (t : List ℕ). t ++ taken) joined ∙ append_assoc (flat_map closed pieces) hand taken ∙ ap (λ (t : List ℕ). flat_map closed pieces ++ t) is
 
@@ -189,7 +200,8 @@ module _ (takes : List ℕ → Bool) where
   stream_none hand taken a b = ap (λ (t : List ℕ). t ++ taken) a ∙ b
 
   -- bytes were taken, and no entry was given
-  pub reads_taken : (before now : Bool) (bytes taken : List ℕ) (entries : List Entry) (hand : List ℕ) → IsRead before bytes entries hand → (before ≡ true → taken ≡ []) → (before ≡ true → now ≡ true)
+  pub reads_taken : (before now : Bool) (bytes taken : List ℕ) (entries : List Entry) (hand : List ℕ) → IsRead before bytes entries hand
+      → (before ≡ true → taken ≡ []) → (before ≡ true → now ≡ true)
       → IsRead now (bytes ++ taken) entries (hand ++ taken)
   reads_taken before now bytes taken entries hand (inl r) none stays =
       inl (record { pieces = r.pieces; joined = joined_more r.pieces hand taken (hand ++ taken) bytes r.joined refl; make = r.make })
@@ -198,15 +210,18 @@ module _ (takes : List ℕ → Bool) where
       inr (stays seen, stream_none hand taken over (none seen), subst (λ (b : List ℕ). AreEntries takes true b entries) (sym same) are)
 
   -- what follows what was read
-  behind_read : (ended : Bool) (bytes : List ℕ) (entries more : List Entry) (hand : List ℕ) → (r : ReadsOn bytes entries hand) → AreEntries takes ended hand more → AreEntries takes ended bytes (entries ++ more)
+  behind_read : (ended : Bool) (bytes : List ℕ) (entries more : List Entry) (hand : List ℕ) → (r : ReadsOn bytes entries hand)
+      → AreEntries takes ended hand more → AreEntries takes ended bytes (entries ++ more)
   behind_read ended bytes entries more hand r are =
       subst (λ (b : List ℕ). AreEntries takes ended b (entries ++ more)) (sym r.joined) (follows ended r.pieces hand entries more r.make are)
 
-  no_more : (ended : Bool) (bytes : List ℕ) (entries : List Entry) (hand : List ℕ) → (r : ReadsOn bytes entries hand) → AreEntries takes ended hand [] → AreEntries takes ended bytes entries
+  no_more : (ended : Bool) (bytes : List ℕ) (entries : List Entry) (hand : List ℕ) → (r : ReadsOn bytes entries hand) → AreEntries takes ended hand []
+      → AreEntries takes ended bytes entries
   no_more ended bytes entries hand r are = subst (AreEntries takes ended bytes) (append-nil entries) (behind_read ended bytes entries [] hand r are)
 
   -- one entry more is read
-  reads_first : (ended : Bool) (bytes : List ℕ) (entries : List Entry) (stream : List ℕ) (entry : Entry) (rest : List ℕ) → IsRead ended bytes entries stream → length rest < length stream
+  reads_first : (ended : Bool) (bytes : List ℕ) (entries : List Entry) (stream : List ℕ) (entry : Entry) (rest : List ℕ) → IsRead ended bytes entries stream
+      → length rest < length stream
       → IsFirst takes ended stream entry rest → IsRead ended bytes (entries ++ entry ∷ []) rest
   reads_first ended bytes entries stream entry rest (inl r) shorter (inl (pieces, is, make)) =
       inl (record {
@@ -215,21 +230,27 @@ module _ (takes : List ℕ → Bool) where
             ∙ ap (λ (t : List ℕ). t ++ rest) (sym (flat_map-append closed r.pieces pieces));
         make = Make-append r.pieces pieces entries (entry ∷ []) r.make make;
       })
-  reads_first ended bytes entries stream entry rest (inl r) shorter (inr (seen, none, are)) = inr (seen, none, behind_read true bytes entries (entry ∷ []) stream r are)
+  reads_first ended bytes entries stream entry rest (inl r) shorter (inr (seen, none, are)) = inr
+      (seen, none, behind_read true bytes entries (entry ∷ []) stream r are)
   reads_first ended bytes entries stream entry rest (inr (seen, over, are)) shorter first = absurd (omega (arith, shorter, ap length over))
 
-  pub reads_more : (before now : Bool) (bytes taken : List ℕ) (entries : List Entry) (hand : List ℕ) (entry : Entry) (rest : List ℕ) → IsRead before bytes entries hand → (before ≡ true → taken ≡ [])
-      → (before ≡ true → now ≡ true) → length rest < length (hand ++ taken) → IsFirst takes now (hand ++ taken) entry rest → IsRead now (bytes ++ taken) (entries ++ entry ∷ []) rest
+  pub reads_more : (before now : Bool) (bytes taken : List ℕ) (entries : List Entry) (hand : List ℕ) (entry : Entry) (rest : List ℕ)
+      → IsRead before bytes entries hand → (before ≡ true → taken ≡ [])
+      → (before ≡ true → now ≡ true) → length rest < length (hand ++ taken) → IsFirst takes now (hand ++ taken) entry rest
+      → IsRead now (bytes ++ taken) (entries ++ entry ∷ []) rest
   reads_more before now bytes taken entries hand entry rest read none stays shorter first =
       reads_first now (bytes ++ taken) entries (hand ++ taken) entry rest (reads_taken before now bytes taken entries hand read none stays) shorter first
 
   -- nothing is in hand and the end was seen: these are all entries
-  pub reads_over : (ended : Bool) (bytes : List ℕ) (entries : List Entry) (hand : List ℕ) → IsRead ended bytes entries hand → hand ≡ [] → AreEntries takes true bytes entries
-  reads_over ended bytes entries hand (inl r) none = no_more true bytes entries hand r (subst (λ (h : List ℕ). AreEntries takes true h []) (sym none) (no_entries true))
+  pub reads_over : (ended : Bool) (bytes : List ℕ) (entries : List Entry) (hand : List ℕ) → IsRead ended bytes entries hand → hand ≡ []
+      → AreEntries takes true bytes entries
+  reads_over ended bytes entries hand (inl r) none = no_more true bytes entries hand r
+      (subst (λ (h : List ℕ). AreEntries takes true h []) (sym none) (no_entries true))
   reads_over ended bytes entries hand (inr (seen, over, are)) none = are
 
   -- no whole entry is in hand and the end wasn't seen: these are all whole entries
-  pub reads_open : (ended : Bool) (bytes : List ℕ) (entries : List Entry) (hand : List ℕ) → IsRead ended bytes entries hand → ended ≡ false → AreEntries takes false hand [] → AreEntries takes false bytes entries
+  pub reads_open : (ended : Bool) (bytes : List ℕ) (entries : List Entry) (hand : List ℕ) → IsRead ended bytes entries hand → ended ≡ false
+      → AreEntries takes false hand [] → AreEntries takes false bytes entries
   reads_open ended bytes entries hand (inl r) unseen are = no_more false bytes entries hand r are
   reads_open ended bytes entries hand (inr (seen, over, all)) unseen are = absurd (true≢false (sym seen ∙ unseen))
 

@@ -34,7 +34,8 @@ pub record Reached {S : Type 0} (rules : Rules S) (first : S) (source sink : Cha
   pub source_faults : source.faults_old ≤ source.faults_new
   pub sink_faults : sink.faults_old ≤ sink.faults_new
 
-pub reached_start : {S : Type 0} (rules : Rules S) (first : S) (left : Option (List ℕ)) (m : ℕ) (held : Option (List ℕ)) (n : ℕ) (p : Position) (s : S) → p.progress ≡ start → p.fault ≡ None → s ≡ first
+pub reached_start : {S : Type 0} (rules : Rules S) (first : S) (left : Option (List ℕ)) (m : ℕ) (held : Option (List ℕ)) (n : ℕ) (p : Position) (s : S)
+    → p.progress ≡ start → p.fault ≡ None → s ≡ first
     → Reached rules first (change left left m m) (change held held n n) p s
 reached_start rules first left m held n p s begins none is_first = record {
   bytes = [];
@@ -72,7 +73,8 @@ abbrev pub call : Change → Option (List ℕ) → ℕ → Change
 call all told n = change all.told_new told all.faults_new n
 
 -- one entry more
-pub reached_more : {S : Type 0} (rules : Rules S) (first : S) (source sink : Change) (p q : Position) (b : Option (List ℕ)) (m : ℕ) (held : Option (List ℕ)) (n : ℕ) (s t : S) → Reached rules first source sink p s
+pub reached_more : {S : Type 0} (rules : Rules S) (first : S) (source sink : Change) (p q : Position) (b : Option (List ℕ)) (m : ℕ) (held : Option (List ℕ))
+    (n : ℕ) (s t : S) → Reached rules first source sink p s
     → Turns rules p q (call source b m) s t (call sink held n) Goes → Reached rules first (later source b m) (later sink held n) q t
 reached_more rules first source sink p q b m held n s t reach turns =
     let g = turns.does.1 in
@@ -83,7 +85,8 @@ reached_more rules first source sink p q b m held n s t reach turns =
       entries = reach.entries ++ q.entry ∷ [];
       took = Took-append source.told_old source.told_new b reach.bytes turns.bytes reach.took turns.goes.took;
       put = Put-append sink.told_old sink.told_new held reach.text a.text reach.put a.put;
-      read = reads_more rules.takes_block p.progress.ended q.progress.ended reach.bytes turns.bytes reach.entries p.progress.in_hand q.entry q.progress.in_hand reach.read
+      read = reads_more rules.takes_block p.progress.ended q.progress.ended reach.bytes turns.bytes reach.entries p.progress.in_hand q.entry q.progress.in_hand
+          reach.read
           turns.goes.none_after_end turns.goes.stays_ended g.shorter g.first;
       counted = omega (arith, turns.goes.counted, reach.counted, length-append reach.bytes turns.bytes);
       no_fault = turns.does.0;

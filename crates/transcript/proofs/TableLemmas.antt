@@ -1,10 +1,9 @@
 -- What the table of statuses says together with the causes of faults, and of the input's limit.
-use Rattle.std.proofs.Common.{◌≡◌, ◌⊎◌, ℕ, ◌<◌, Bool, true, false, List, ◌++◌, length, take, Option, None, Some, refl, sym, ap, ◌∙◌, subst, inl, inr, length-append, take_at, arith}
+use Rattle.std.proofs.Common.{◌≡◌, ◌⊎◌, ℕ, ◌<◌, Bool, true, false, List, length, take, Option, None, Some, refl, sym, ap, ◌∙◌, subst, inl, inr, length-append, take_at, arith}
 use Rattle.std.specs.List.{list_any}
 use Rattle.std.proofs.lemmas.Bool.{true≢false}
 use Rattle.line_io.specs.Outside.{Change, Took, Rose, IsAtEnd}
 use Rattle.line_io.specs.declared.lines.TheConstants.{INPUT_LIMIT}
-use Rattle.transcript.specs.Entry.{Entry}
 use Rattle.transcript.specs.Rules.{Rules}
 use Rattle.transcript.specs.Transcript.{IsTranscript}
 use Rattle.transcript.specs.Table.{IsTold, HasQuit, EndsInTime, Runs}
@@ -25,7 +24,8 @@ module _ {S : Type 0} (rules : Rules S) where
   quit_in_time (Some all) (Some left) bytes took (inl short) is = absurd (omega (arith, ap length took, length-append bytes left, is, short))
   quit_in_time (Some all) (Some left) bytes took (inr h) is = subst (HasQuit rules) (ap (take INPUT_LIMIT) took ∙ take_at bytes left INPUT_LIMIT is) h
 
-  completes : (first : S) (status : Status) (source sink : Change) → IsTold rules first status source sink → (status ≡ ReadFault → Rose source.faults_old source.faults_new)
+  completes : (first : S) (status : Status) (source sink : Change) → IsTold rules first status source sink
+      → (status ≡ ReadFault → Rose source.faults_old source.faults_new)
       → (status ≡ WriteFault → Rose sink.faults_old sink.faults_new) → ¬ Rose source.faults_old source.faults_new → ¬ Rose sink.faults_old sink.faults_new
       → EndsInTime rules source.told_old → (status ≡ Done) ⊎ (status ≡ NoMemory)
   completes first Done source sink told read write no_read no_write ends = inl refl
@@ -36,13 +36,15 @@ module _ {S : Type 0} (rules : Rules S) where
   completes first InputLimit source sink told read write no_read no_write ends =
       absurd (no_quit first told.bytes told.text told.tells.1 (quit_in_time source.told_old source.told_new told.bytes told.took ends told.tells.0))
 
-  pub runs : (first : S) (status : Status) (source sink : Change) → IsTold rules first status source sink → (status ≡ ReadFault → Rose source.faults_old source.faults_new)
+  pub runs : (first : S) (status : Status) (source sink : Change) → IsTold rules first status source sink
+      → (status ≡ ReadFault → Rose source.faults_old source.faults_new)
       → (status ≡ WriteFault → Rose sink.faults_old sink.faults_new) → Runs rules first status source sink
   runs first status source sink told read write =
       record { told = told; read_fault = read; write_fault = write; complete = completes first status source sink told read write }
 
   -- where all that may be taken was taken, and no `quit` is among it
-  pub at_limit : (first : S) (status : Status) (source sink : Change) → (told : IsTold rules first status source sink) → length told.bytes ≡ INPUT_LIMIT → ¬ HasQuit rules told.bytes
+  pub at_limit : (first : S) (status : Status) (source sink : Change) → (told : IsTold rules first status source sink) → length told.bytes ≡ INPUT_LIMIT
+      → ¬ HasQuit rules told.bytes
       → (status ≡ InputLimit) ⊎ (status ≡ WriteFault) ⊎ (status ≡ NoMemory)
   at_limit first InputLimit source sink told is none = inl refl
   at_limit first WriteFault source sink told is none = inr (inl refl)
@@ -51,7 +53,8 @@ module _ {S : Type 0} (rules : Rules S) where
   at_limit first ReadFault source sink told is none = absurd (omega (arith, told.tells.0, is))
   at_limit first Done source sink told is none = by_end told.tells
     where
-      by_end : ((quits : Bool) × ((length told.bytes < INPUT_LIMIT) × IsAtEnd source.told_new) × IsTranscript rules first true quits told.bytes told.text) ⊎ IsTranscript rules first false true told.bytes told.text
+      by_end : ((quits : Bool) × ((length told.bytes < INPUT_LIMIT) × IsAtEnd source.told_new) × IsTranscript rules first true quits told.bytes told.text) ⊎
+          IsTranscript rules first false true told.bytes told.text
           → (Done ≡ InputLimit) ⊎ (Done ≡ WriteFault) ⊎ (Done ≡ NoMemory)
       by_end (inl (quits, (short, over), t)) = absurd (omega (arith, short, is))
       by_end (inr t) = absurd (none (t.entries, t.are, t.quit))

@@ -14,7 +14,8 @@ no_quit_parts false b h = (refl, h)
 
 module _ {S : Type 0} (rules : Rules S) where
   -- the answers to entries, and to those behind them
-  pub Answers-append : (state mid next : S) (xs ys : List Entry) (s t : List ℕ) → Answers rules state xs s mid → Answers rules mid ys t next → Answers rules state (xs ++ ys) (s ++ t) next
+  pub Answers-append : (state mid next : S) (xs ys : List Entry) (s t : List ℕ) → Answers rules state xs s mid → Answers rules mid ys t next
+      → Answers rules state (xs ++ ys) (s ++ t) next
   Answers-append state mid next [] ys s t (none, same) h = rw (none, ← same) h
   Answers-append state mid next (x ∷ xs) ys s t (reply, after, others, answer, is, rest) h =
       (reply, after, others ++ t, answer, ap (λ (u : List ℕ). u ++ t) is ∙ append_assoc reply others t, Answers-append after mid next xs ys others t rest h)
@@ -49,7 +50,8 @@ module _ (quits : Entry → Bool) where
   up_to_quit-all xs none = ap (up_to_quit quits) (sym (append-nil xs)) ∙ up_to_quit-append xs [] none ∙ append-nil xs
 
   -- the first `quit` ends the entries
-  pub up_to_quit-quit : (xs : List Entry) (x : Entry) (ys : List Entry) → list_any quits xs ≡ false → quits x ≡ true → up_to_quit quits (xs ++ x ∷ [] ++ ys) ≡ xs ++ x ∷ []
+  pub up_to_quit-quit : (xs : List Entry) (x : Entry) (ys : List Entry) → list_any quits xs ≡ false → quits x ≡ true
+      → up_to_quit quits (xs ++ x ∷ [] ++ ys) ≡ xs ++ x ∷ []
   up_to_quit-quit xs x ys none quit =
       ap (up_to_quit quits) (append_assoc xs (x ∷ []) ys) ∙ up_to_quit-append xs (x ∷ ys) none ∙ ap (λ (t : List Entry). xs ++ t) (rw quit refl)
 
@@ -69,4 +71,5 @@ module _ (quits : Entry → Bool) where
   behind entry more = cond (quits entry) [] (up_to_quit quits more)
 
   pub up_to_quit-cons : (entry : Entry) (more : List Entry) → up_to_quit quits (entry ∷ more) ≡ entry ∷ behind entry more
-  up_to_quit-cons entry more = elim (quits entry) as (λ (b : Bool). cond b (entry ∷ []) (entry ∷ up_to_quit quits more) ≡ entry ∷ cond b [] (up_to_quit quits more)) [ true ↦ refl | false ↦ refl ]
+  up_to_quit-cons entry more = elim (quits entry) as
+      (λ (b : Bool). cond b (entry ∷ []) (entry ∷ up_to_quit quits more) ≡ entry ∷ cond b [] (up_to_quit quits more)) [ true ↦ refl | false ↦ refl ]

@@ -12,8 +12,10 @@ use Rattle.transcript.specs.declared.status.Status.TheVariants.{Done, BadWords, 
 use Rattle.transcript.specs.declared.turn.Turn.{Turn}
 use Rattle.transcript.specs.declared.turn.Turn.TheVariants.{Goes, Ends}
 
-pub found_turn : {S : Type 0} (rules : Rules S) (p q : Position) (source : Change) (s t : S) (sink : Change) (turn : Turn) (entry : Entry) (answer : Result Next EntryFault) (next : Next)
-    → AdvancesEntry rules.takes_block p q source answer → answer ≡ Ok next → next ≡ Found → entry ≡ q.entry → EntryTurn rules s entry t sink turn → sink.faults_old ≤ sink.faults_new
+pub found_turn : {S : Type 0} (rules : Rules S) (p q : Position) (source : Change) (s t : S) (sink : Change) (turn : Turn) (entry : Entry)
+    (answer : Result Next EntryFault) (next : Next)
+    → AdvancesEntry rules.takes_block p q source answer → answer ≡ Ok next → next ≡ Found → entry ≡ q.entry → EntryTurn rules s entry t sink turn
+    → sink.faults_old ≤ sink.faults_new
     → Turns rules p q source s t sink turn
 found_turn rules p q source s t sink turn entry answer next advances is found same does count =
     record { bytes = h.2.bytes; goes = h.2.goes; sink_faults = count; does = by_turn turn (subst (λ (e : Entry). EntryTurn rules s e t sink turn) same does) }

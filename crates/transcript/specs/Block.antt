@@ -85,7 +85,8 @@ SaysBlock new source stream bytes (Err Limit) =
 SaysBlock new source stream bytes (Err Memory) = Unit {0}
 
 -- the lines of a block were taken, and copied
-pub record ReadsBlock (old new : Progress) (source : Change) (copied : List ℕ) (answer : Result Kind EntryFault) : Type 0 where
+pub record ReadsBlock (old new : Progress) (source : Change) (copied : List ℕ) (answer : Result Kind EntryFault) : Type
+    0 where
   pub bytes : List ℕ
   pub goes : Takes old new source bytes
   -- none where the block's end was in hand

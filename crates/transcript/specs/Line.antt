@@ -21,7 +21,8 @@ SaysLine old new source stream into (Err Limit) = ReachesLimit old new stream
 SaysLine old new source stream into (Err Memory) = Unit {0}
 
 -- the next line was taken, and copied
-pub record TakesLine (old new : Progress) (source : Change) (into : List ℕ) (answer : Result Piece EntryFault) : Type 0 where
-  pub bytes : List ℕ
-  pub moves : Moves old new source bytes
-  pub says : SaysLine old new source (old.in_hand ++ bytes) into answer
+pub record TakesLine (old new : Progress) (source : Change) (into : List ℕ) (answer : Result Piece EntryFault) : Type 0
+  where
+    pub bytes : List ℕ
+    pub moves : Moves old new source bytes
+    pub says : SaysLine old new source (old.in_hand ++ bytes) into answer

@@ -47,7 +47,8 @@ SaysEntry takes old new source stream entry (Err Limit) = LimitsEntry takes new 
 SaysEntry takes old new source stream entry (Err Memory) = Unit {0}
 
 -- the next entry was looked for, and copied where it was found
-pub record ReadsEntry (takes : List ℕ → Bool) (old new : Progress) (source : Change) (entry : Entry) (answer : Result Next EntryFault) : Type 0 where
+pub record ReadsEntry (takes : List ℕ → Bool) (old new : Progress) (source : Change) (entry : Entry)
+    (answer : Result Next EntryFault) : Type 0 where
   -- the bytes that were taken
   pub bytes : List ℕ
   pub goes : Takes old new source bytes

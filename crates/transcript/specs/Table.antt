@@ -1,5 +1,5 @@
 -- What each status of a run says of the bytes that were taken and of those that were written.
-use Rattle.std.specs.Prelude.{◌≡◌, ◌⊎◌, ℕ, ◌<◌, Bool, true, false, List, [], ◌++◌, length, take, Option, None, Some}
+use Rattle.std.specs.Prelude.{◌≡◌, ◌⊎◌, ℕ, ◌<◌, Bool, true, false, List, ◌++◌, length, take, Option, None, Some}
 use Rattle.std.specs.List.{list_any}
 use Rattle.line_io.specs.Outside.{Change, Took, Put, Rose, IsAtEnd}
 use Rattle.line_io.specs.declared.lines.TheConstants.{INPUT_LIMIT}
@@ -18,7 +18,8 @@ abbrev pub MayBeEnded : Bool → List ℕ → Option (List ℕ) → Type 0
 MayBeEnded ended bytes left = ended ≡ true → IsAtTheEnd bytes left
 
 -- the text is the start of a transcript
-pub record IsCutTranscript {S : Type 0} (rules : Rules S) (first : S) (bytes : List ℕ) (left : Option (List ℕ)) (text : List ℕ) : Type 0 where
+pub record IsCutTranscript {S : Type 0} (rules : Rules S) (first : S) (bytes : List ℕ) (left : Option (List ℕ))
+    (text : List ℕ) : Type 0 where
   pub ended : Bool
   pub quits : Bool
   pub may_be : MayBeEnded ended bytes left
@@ -26,7 +27,8 @@ pub record IsCutTranscript {S : Type 0} (rules : Rules S) (first : S) (bytes : L
   pub transcript : IsTranscript rules first ended quits bytes (text ++ others)
 
 -- the text is the replies to the first entries, each whole
-pub record IsFirstReplies {S : Type 0} (rules : Rules S) (first : S) (bytes : List ℕ) (left : Option (List ℕ)) (text : List ℕ) : Type 0 where
+pub record IsFirstReplies {S : Type 0} (rules : Rules S) (first : S) (bytes : List ℕ) (left : Option (List ℕ))
+    (text : List ℕ) : Type 0 where
   pub ended : Bool
   pub may_be : MayBeEnded ended bytes left
   pub entries : List Entry

@@ -1,5 +1,5 @@
 -- A small service for the tests: it counts entries.
-use Rattle.std.specs.Prelude.{◌≡◌, ℕ, ◌+◌, Bool, false, List, [], ◌∷◌, ◌++◌, codes, nat_lt, ◌==◌, if◌then◌else◌}
+use Rattle.std.specs.Prelude.{◌≡◌, ℕ, ◌+◌, Bool, false, List, [], ◌∷◌, codes, nat_lt, ◌==◌, if◌then◌else◌}
 use Rattle.std.specs.Str.{bytes_eq}
 use Rattle.transcript.specs.Entry.{Entry, too_long, line, with_block, whole, cut, large}
 use Rattle.transcript.specs.Rules.{Rules}

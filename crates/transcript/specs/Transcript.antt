@@ -23,8 +23,9 @@ pub record Replies {S : Type 0} (rules : Rules S) (first : S) (entries : List En
   pub answers : Answers rules first entries text last
 
 -- a transcript of the bytes, whose end was seen or not; an accepted `quit` is among their entries or not
-pub record IsTranscript {S : Type 0} (rules : Rules S) (first : S) (ended quits : Bool) (bytes text : List ℕ) : Type 0 where
-  pub entries : List Entry
-  pub are : AreEntries rules.takes_block ended bytes entries
-  pub quit : list_any rules.quits entries ≡ quits
-  pub replies : Replies rules first (up_to_quit rules.quits entries) text
+pub record IsTranscript {S : Type 0} (rules : Rules S) (first : S) (ended quits : Bool) (bytes text : List ℕ) : Type 0
+  where
+    pub entries : List Entry
+    pub are : AreEntries rules.takes_block ended bytes entries
+    pub quit : list_any rules.quits entries ≡ quits
+    pub replies : Replies rules first (up_to_quit rules.quits entries) text

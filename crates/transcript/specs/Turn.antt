@@ -10,7 +10,8 @@ use Rattle.transcript.specs.declared.turn.Turn.{Turn}
 use Rattle.transcript.specs.declared.turn.Turn.TheVariants.{Goes, Ends}
 
 -- the entry is answered and its reply is written whole
-pub record IsAnswered {S : Type 0} (rules : Rules S) (old : S) (entry : Entry) (new : S) (sink : Change) (quits : Bool) : Type 0 where
+pub record IsAnswered {S : Type 0} (rules : Rules S) (old : S) (entry : Entry) (new : S) (sink : Change)
+    (quits : Bool) : Type 0 where
   pub text : List ℕ
   pub answer : rules.answers old entry text new
   pub put : Put sink.told_old sink.told_new text
@@ -44,9 +45,11 @@ TurnOf rules before after source stream old new sink Goes =
     × EntryTurn rules old after.entry new sink Goes
 TurnOf rules before after source stream old new sink (Ends Done) =
     (IsOver before.progress after.progress stream × IsSilent sink)
-    ⊎ (GivesEntry rules.takes_block after.progress stream after.entry × EntryTurn rules old after.entry new sink (Ends Done))
+    ⊎ (GivesEntry rules.takes_block after.progress stream after.entry × EntryTurn rules old after.entry new sink
+    (Ends Done))
 TurnOf rules before after source stream old new sink (Ends WriteFault) =
-    GivesEntry rules.takes_block after.progress stream after.entry × EntryTurn rules old after.entry new sink (Ends WriteFault)
+    GivesEntry rules.takes_block after.progress stream after.entry × EntryTurn rules old after.entry new sink
+    (Ends WriteFault)
 TurnOf rules before after source stream old new sink (Ends NoMemory) = IsSilent sink
 TurnOf rules before after source stream old new sink (Ends ReadFault) =
     FailsEntry rules.takes_block after.progress source stream × IsSilent sink
@@ -55,7 +58,8 @@ TurnOf rules before after source stream old new sink (Ends InputLimit) =
 TurnOf rules before after source stream old new sink (Ends BadWords) = ⊥
 
 -- a turn that reads on from one position to another
-pub record Turns {S : Type 0} (rules : Rules S) (before after : Position) (source : Change) (old new : S) (sink : Change) (turn : Turn) : Type 0 where
+pub record Turns {S : Type 0} (rules : Rules S) (before after : Position) (source : Change) (old new : S)
+    (sink : Change) (turn : Turn) : Type 0 where
   -- the bytes that were taken
   pub bytes : List ℕ
   pub goes : Takes before.progress after.progress source bytes

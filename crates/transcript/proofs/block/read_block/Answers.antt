@@ -34,7 +34,8 @@ lines-preserved-in-Ok-TooLong g c =
 pub returns-then-is_end : goal.returns-then-is_end
 returns-then-is_end g c =
     let t = c.take_line.ensures in
-    block_ends _ _ _ _ _ _ _ _ _ _ _ c.lines.invariant t.bytes t.moves c.take_line.new.into.items c.kind_of.result (line_known _ _ _ _ _ _ _ _ _ _ t c.in-Ok-Line.is c.in-Ok-Line.field-0-is)
+    block_ends _ _ _ _ _ _ _ _ _ _ _ c.lines.invariant t.bytes t.moves c.take_line.new.into.items c.kind_of.result
+    (line_known _ _ _ _ _ _ _ _ _ _ t c.in-Ok-Line.is c.in-Ok-Line.field-0-is)
     (sym (ap (λ (l : List ℕ). bytes_eq l (codes "end")) c.deref.ensures.value) ∙ sym c.is_end.ensures ∙ c.if-is_end.true) c.kind_of.ensures
 
 pub returns-in-Err-copy_line : goal.returns-in-Err-copy_line
@@ -53,4 +54,5 @@ lines-preserved g c =
     in_block_short _ _ _ _ _ _ _ _ _ _ _ c.lines.invariant t.bytes t.moves c.take_line.new.into.items c.copy_line.new.block.items c.in-Ok.kept
     (line_known _ _ _ _ _ _ _ _ _ _ t c.in-Ok-Line.is c.in-Ok-Line.field-0-is)
     (sym (ap (λ (l : List ℕ). bytes_eq l (codes "end")) c.deref.ensures.value) ∙ sym c.is_end.ensures ∙ c.if-is_end.false)
-    (subst (λ (l : List ℕ). CopiesLine c.lines.fits c.lines.block.items l c.copy_line.new.block.items c.in-Ok.kept) c.deref-in-Ok-Line.ensures.value c.in-Ok.ensures)
+    (subst (λ (l : List ℕ). CopiesLine c.lines.fits c.lines.block.items l c.copy_line.new.block.items c.in-Ok.kept) c.deref-in-Ok-Line.ensures.value
+    c.in-Ok.ensures)

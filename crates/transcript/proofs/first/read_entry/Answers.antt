@@ -7,7 +7,8 @@ use Rattle.transcript.proofs.first.read_entry.Goals as goal
 pub returns-in-Err : goal.returns-in-Err
 returns-in-Err g c =
     let t = c.take_line.ensures in
-    fails_first _ _ _ _ _ _ _ c.take_line.new.into.items t.bytes t.moves (entry_of_kind c.args.kind.now c.take_line.new.into.items c.args.block.now.items) c.take_line.result c.in-Err.fault t.says c.in-Err.is
+    fails_first _ _ _ _ _ _ _ c.take_line.new.into.items t.bytes t.moves (entry_of_kind c.args.kind.now c.take_line.new.into.items c.args.block.now.items)
+    c.take_line.result c.in-Err.fault t.says c.in-Err.is
 
 pub returns-in-Ok-End : goal.returns-in-Ok-End
 returns-in-Ok-End g c =
@@ -37,4 +38,5 @@ pub returns-in-Ok : goal.returns-in-Ok
 returns-in-Ok g c =
     let t = c.take_line.ensures in
     gives_block _ _ _ _ _ _ _ _ t.bytes t.moves (line_known _ _ _ _ _ _ _ _ _ _ t c.in-Ok-Line.is c.in-Ok-Line.field-0-is)
-    (sym (ap g.V.Service.rules.takes_block c.deref.ensures.value) ∙ sym c.takes_block.ensures ∙ c.if-not-takes_block.false) _ _ _ _ c.in-Ok.found c.in-Ok.ensures
+    (sym (ap g.V.Service.rules.takes_block c.deref.ensures.value) ∙ sym c.takes_block.ensures ∙ c.if-not-takes_block.false) _ _ _ _ c.in-Ok.found
+    c.in-Ok.ensures

@@ -16,7 +16,14 @@ newline_from-requires g c = omega (arith, c.loop-at.invariant.held_is, c.loop-at
 
 pub overflow_add-len : goal.overflow_add-len
 overflow_add-len g c =
-    omega (arith, c.in-Some.ensures.0, length-drop c.loop-at.searched c.loop-at.self.window.in_hand, c.loop-at.invariant.held_is, c.loop-at.invariant.searched_in, c.loop-at.invariant.room)
+    omega (
+      arith,
+      c.in-Some.ensures.0,
+      length-drop c.loop-at.searched c.loop-at.self.window.in_hand,
+      c.loop-at.invariant.held_is,
+      c.loop-at.invariant.searched_in,
+      c.loop-at.invariant.room,
+    )
 
 pub returns-in-Some : goal.returns-in-Some
 returns-in-Some g c = Seeking-whole _ _ _ _ _ _ _ _ _ _ c.loop-at.invariant c.in-Some.ensures
