@@ -16,8 +16,8 @@ pub(crate) enum Found {
     End,
 }
 
-/// What was found at the front of the bytes in hand: the rest of a piece of which so many bytes were
-/// dropped.
+/// What was found at the front of the bytes in hand: the rest of a piece of which so many bytes
+/// were dropped.
 #[derive(Clone, Copy)]
 struct Piece {
     dropped: u64,
@@ -74,7 +74,7 @@ impl Cursor {
         }
     }
 
-    // Takes bytes until a whole piece is in hand, and drops the bytes of one that is already too long.
+    // Takes bytes until a whole piece is in hand, and drops those of one that is already too long.
     fn find<S: Source>(&mut self, source: &mut S) -> Result<Piece, LineFault>
         requires { self.old.fault ≡ None }
         ensures { Reaches (progress self.old) (progress self.new)

@@ -69,8 +69,8 @@ impl Lines {
     ///
     /// # Errors
     ///
-    /// `Read` where a take failed, `Limit` where `INPUT_LIMIT` bytes were taken with no whole line left
-    /// and no end seen. From then on the same fault is answered.
+    /// `Read` where a take failed, `Limit` where `INPUT_LIMIT` bytes were taken with no whole line
+    /// left and no end seen. From then on the same fault is answered.
     pub fn next<S: Source>(&mut self, source: &mut S) -> Result<Item<'_>, LineFault>
         ensures* { sem 𝓛 (Rests the_row self.entry (λ new. Advances self.old new
             (change_of S.left S.faults source.old source.new) result)) }

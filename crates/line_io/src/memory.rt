@@ -37,11 +37,17 @@ impl Model for MemSource {
 }
 
 impl MemSource {
-    /// A source of these bytes, which gives at most `piece` at a time and fails at the calls with these numbers,
-    /// counted from 1.
+    /// A source of these bytes, which gives at most `piece` at a time and fails at the calls with these
+    /// numbers, counted from 1.
     pub fn make(bytes: Vec<u8>, piece: usize, fails: Vec<u64>) -> MemSource
         requires { 1 ≤ piece }
-        ensures { result ≡ record { rest = bytes.items; piece = piece; fails = fails.items; calls = 0; faults = 0 } }
+        ensures { result ≡ record {
+          rest = bytes.items;
+          piece = piece;
+          fails = fails.items;
+          calls = 0;
+          faults = 0;
+        } }
     {
         MemSource {
             stock: Stock::make(bytes),
@@ -105,8 +111,8 @@ impl Model for MemSink {
 }
 
 impl MemSink {
-    /// An empty sink with the memory for `room` bytes. It takes at most `piece` at a time, and fails where its room
-    /// is used up and at the calls with these numbers, counted from 1.
+    /// An empty sink with the memory for `room` bytes. It takes at most `piece` at a time, and fails
+    /// where its room is used up and at the calls with these numbers, counted from 1.
     ///
     /// # Errors
     ///
@@ -118,8 +124,14 @@ impl MemSink {
         fails: Vec<u64>,
     ) -> Result<MemSink, NoMemory>
         requires { 1 ≤ piece }
-        ensures { IfOk result (λ sink. sink
-            ≡ record { held = []; room = room; piece = piece; fails = fails.items; calls = 0; faults = 0 }) }
+        ensures { IfOk result (λ sink. sink ≡ record {
+          held = [];
+          room = room;
+          piece = piece;
+          fails = fails.items;
+          calls = 0;
+          faults = 0;
+        }) }
     {
         let shelf = Shelf::make(alloc, room)?;
         Ok(MemSink {

@@ -14,7 +14,7 @@ pub trait Source {
     /// How many faults there were. It never falls.
     ghost faults: { Self → ℕ };
 
-    /// Gives the next bytes, at most as many as `into` has room for, and says how many; 0 is the end.
+    /// Gives the next bytes, up to the length of `into`, and says how many; 0 is the end.
     ///
     /// # Errors
     ///
@@ -23,7 +23,7 @@ pub trait Source {
         // The first bytes of the piece are the next bytes: they leave the source.
         ensures given { IfOk result (λ k. (k ≤ length into.old)
             × Took (left self.old) (left self.new) (take k into.new)) }
-        // For a piece that isn't empty 0 is the end: exactly where nothing is left, where the source tells that.
+        // For a piece that isn't empty 0 is the end: where it is told, exactly where nothing is left.
         ensures end { IfOk result (λ k. 0 < length into.old
             → IfSome (left self.old) (λ bytes. (k ≡ 0) ↔ (bytes ≡ []))) }
         ensures failed { OnErr result (Rose (faults self.old) (faults self.new)
@@ -39,7 +39,8 @@ pub trait Sink {
     /// How many faults there were. It never falls.
     ghost faults: { Self → ℕ };
 
-    /// Takes some of the bytes from the front of `piece`, at least one if there is one, and says how many.
+    /// Takes some of the bytes from the front of `piece`, one at least if there is one, and says how
+    /// many.
     ///
     /// # Errors
     ///

@@ -108,7 +108,7 @@ impl Window {
         len_without_return(&bytes[self.start..self.start + len])
     }
 
-    /// Gives a line from the front of the bytes in hand, which lose all through the end of its piece.
+    /// Gives a line from the front of the bytes in hand, which lose all up to the end of its piece.
     pub(crate) fn give(&mut self, line_len: usize, through: usize)
         requires line { line_len ≤ through }
         requires in_hand { through ≤ length self.old.in_hand }

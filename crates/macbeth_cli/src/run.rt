@@ -9,8 +9,8 @@ use line_io::{Sink, Source};
 use std::alloc::Global;
 use transcript::{Status, run_entries};
 
-/// Runs the program on its words, the ones after its name. With no words it runs a session: it answers
-/// the lines of the source one after another, each reply by one `put_all`.
+/// Runs the program on its words, the ones after its name. With no words it runs a session: it
+/// answers the lines of the source one after another, each reply by one `put_all`.
 pub fn run<S: Source, K: Sink>(
     alloc: Global,
     words: &[String],

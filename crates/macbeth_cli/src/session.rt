@@ -94,8 +94,8 @@ fn answer_parsed(
 /// Does a command.
 fn obey(alloc: Global, session: &mut Session, command: &Command) -> Result<Answered, NoMemory>
     requires { IsCommand command.now }
-    ensures text { IfOk result (λ answered.
-        WritesReply (AnswersParsed session.old (Parsed.Do command.now)) answered.text.items session.new) }
+    ensures text { IfOk result (λ answered. WritesReply
+        (AnswersParsed session.old (Parsed.Do command.now)) answered.text.items session.new) }
     ensures ends { IfOk result (λ answered. answered.ends ≡ ends_session command.now) }
 {
     let reply = session.apply(command)?;
