@@ -1,7 +1,7 @@
 -- Checked arithmetic: each answer is the exact one in lowest terms, and the only such.
-use Rattle.std.specs.List.{list_all, AllByRecursion}
+use Rattle.std.specs.List.{list_all}
 use Rattle.std.proofs.lemmas.Bool.Decides.{nat_tests}
-use Rattle.std.proofs.Common.{◌≡◌, ◌≢◌, ◌↔◌, Bool, true, false, ◌&&◌, List, [], ◌∷◌, Result, Ok, Err, ℤ, zero, suc, pos, negsuc, ◌*ℤ◌, ◌<ℤ◌, refl, sym, ap, subst, ◌∙◌, arith}
+use Rattle.std.proofs.Common.{◌≡◌, ◌≢◌, ◌↔◌, Bool, true, false, ◌&&◌, List, [], ◌∷◌, Result, Ok, Err, ℤ, zero, suc, pos, negsuc, refl, sym, ap, ◌∙◌, arith}
 use Rattle.integers.specs.Divisibility.{gcd_of}
 use Rattle.integers.specs.Fraction.{Fraction, IsFraction, SameFraction, fraction_sum, fraction_difference, fraction_product, fraction_quotient}
 use Rattle.integers.proofs.Divisibility.{IsGcdOf-gcd_of, gcd_of_nonneg, same_parts}
@@ -68,7 +68,8 @@ checked-is zs f (Err e) p n = cases (list_all is_in_range zs) refl
     cases false k = refl
 
 -- the sum
-pub checked_sum-is : (f g : Fraction) (r : Result Fraction TooWide) → IsFraction f → IsFraction g → IsExact r (SumFits f g) (fraction_sum f g) → r ≡ checked_sum f g
+pub checked_sum-is : (f g : Fraction) (r : Result Fraction TooWide) → IsFraction f → IsFraction g → IsExact r (SumFits f g) (fraction_sum f g)
+    → r ≡ checked_sum f g
 unfolding checked_sum
 checked_sum-is f g r pf pg h = checked-is (sum_numbers (gcd_of f.den g.den) f g) (fraction_sum f g) r (mul_pos f.den g.den pf pg) h
 
@@ -77,13 +78,16 @@ unfolding checked_sum
 checked_sum-exact f g pf pg = checked-exact (sum_numbers (gcd_of f.den g.den) f g) (fraction_sum f g) (mul_pos f.den g.den pf pg)
 
 -- the product
-pub checked_product-is : (f g : Fraction) (r : Result Fraction TooWide) → IsFraction f → IsFraction g → IsExact r (ProductFits f g) (fraction_product f g) → r ≡ checked_product f g
+pub checked_product-is : (f g : Fraction) (r : Result Fraction TooWide) → IsFraction f → IsFraction g → IsExact r (ProductFits f g) (fraction_product f g)
+    → r ≡ checked_product f g
 unfolding checked_product
-checked_product-is f g r pf pg h = checked-is (product_numbers (gcd_of f.num g.den) (gcd_of g.num f.den) f g) (fraction_product f g) r (mul_pos f.den g.den pf pg) h
+checked_product-is f g r pf pg h =
+    checked-is (product_numbers (gcd_of f.num g.den) (gcd_of g.num f.den) f g) (fraction_product f g) r (mul_pos f.den g.den pf pg) h
 
 pub checked_product-exact : (f g : Fraction) → IsFraction f → IsFraction g → IsExact (checked_product f g) (ProductFits f g) (fraction_product f g)
 unfolding checked_product
-checked_product-exact f g pf pg = checked-exact (product_numbers (gcd_of f.num g.den) (gcd_of g.num f.den) f g) (fraction_product f g) (mul_pos f.den g.den pf pg)
+checked_product-exact f g pf pg =
+    checked-exact (product_numbers (gcd_of f.num g.den) (gcd_of g.num f.den) f g) (fraction_product f g) (mul_pos f.den g.den pf pg)
 
 -- ---- differences and quotients
 
@@ -92,7 +96,8 @@ pub sum_with_opposite : (f g h : Fraction) (r : Result Fraction TooWide) → h �
 unfolding checked_difference
 sum_with_opposite f g h r e s = s ∙ ap (checked_sum f) e
 
-pub exact_difference : (f g : Fraction) (r : Result Fraction TooWide) → IsExact r (DifferenceFits f g) (fraction_sum f (opposite g)) → IsExact r (DifferenceFits f g) (fraction_difference f g)
+pub exact_difference : (f g : Fraction) (r : Result Fraction TooWide) → IsExact r (DifferenceFits f g) (fraction_sum f (opposite g))
+    → IsExact r (DifferenceFits f g) (fraction_difference f g)
 exact_difference f g (Ok r) h = (h.0, h.1, difference_value f.num f.den g.num g.den r.num r.den h.2)
 exact_difference f g (Err e) h = h
 
@@ -105,7 +110,8 @@ pub product_with_reciprocal : (f g h : Fraction) (r : Result Fraction TooWide) �
 unfolding checked_quotient
 product_with_reciprocal f g h r e s = s ∙ ap (checked_product f) e
 
-pub exact_quotient : (f g : Fraction) (r : Result Fraction TooWide) → IsExact r (QuotientFits f g) (fraction_product f (reciprocal g.num g.den)) → IsExact r (QuotientFits f g) (fraction_quotient f g)
+pub exact_quotient : (f g : Fraction) (r : Result Fraction TooWide) → IsExact r (QuotientFits f g) (fraction_product f (reciprocal g.num g.den))
+    → IsExact r (QuotientFits f g) (fraction_quotient f g)
 exact_quotient f g (Ok r) h = (h.0, h.1, quotient_value f.num f.den g.num g.den r.num r.den h.2)
 exact_quotient f g (Err e) h = h
 
@@ -120,4 +126,5 @@ reciprocal-den g n = of_num g.num n
 
 pub checked_quotient-exact : (f g : Fraction) → IsFraction f → g.num ≢ pos 0 → IsExact (checked_quotient f g) (QuotientFits f g) (fraction_quotient f g)
 unfolding checked_quotient
-checked_quotient-exact f g pf n = exact_quotient f g (checked_product f (reciprocal g.num g.den)) (checked_product-exact f (reciprocal g.num g.den) pf (reciprocal-den g n))
+checked_quotient-exact f g pf n =
+    exact_quotient f g (checked_product f (reciprocal g.num g.den)) (checked_product-exact f (reciprocal g.num g.den) pf (reciprocal-den g n))

@@ -1,6 +1,6 @@
 -- Decimal digits by division, and the nearest whole number.
 use Rattle.std.proofs.Common.{◌<ℤ◌, ◌≡◌, ℕ, zero, suc, ◌+◌, ◌-◌, ◌*◌, ◌^◌, ◌<◌, ◌≤◌, List, [], ◌∷◌, ◌++◌, length, refl, ap, subst, sym, ◌∙◌, arith, ℤ, pos, negsuc, neg_ℤ, ◌-ℤ◌, ◌*ℤ◌, unsigned_abs, Bool, true, false, ◌↔◌, append-nil, replicate, ⊎_elim}
-use Rattle.std.proofs.Math.Nat.{mul-le-mul_left, mul-le-mul_right, pow-le-pow_right}
+use Rattle.std.proofs.Math.Nat.{mul-le-mul_left, pow-le-pow_right}
 use Rattle.std.proofs.lemmas.Fmt.{decimal_is_IsNumeral_wide, length-decimal-le_wide}
 use Rattle.std.proofs.lemmas.Grind.{pow_more}
 use Rattle.std.proofs.lemmas.Bool.{cases_lt, false≢true}
@@ -24,7 +24,8 @@ pub ten_small : (i : ℕ) → i ≤ 18 → 10 ^ i ≤ 1000000000000000000
 ten_small i h = omega (arith, pow-le-pow_right {n = 10} (omega arith) h)
 
 -- one more digit
-pub digit_more : (part left next digit den rest i : ℕ) → part * den + left ≡ 10 ^ i * rest → digit * den + next ≡ 10 * left → (part * 10 + digit) * den + next ≡ 10 ^ (i + 1) * rest
+pub digit_more : (part left next digit den rest i : ℕ) → part * den + left ≡ 10 ^ i * rest → digit * den + next ≡ 10 * left
+    → (part * 10 + digit) * den + next ≡ 10 ^ (i + 1) * rest
 digit_more part left next digit den rest i h k = omega (arith, h, k, ap (λ x. x * rest) (ten_more i))
 
 -- rounding from a quotient and a remainder
@@ -62,12 +63,14 @@ near_from_half_up a b d low high = ⊎_elim
     (cases_lt b a)
 
 -- the nearest number by sizes
-nearest_from : (s n d m : ℕ) (f : Fraction) (k : ℤ) → IsHalfUp (s * n) d m → unsigned_abs f.num ≡ n → unsigned_abs f.den ≡ d → unsigned_abs k ≡ m → unsigned_abs (pos s *ℤ f.num -ℤ k *ℤ f.den) ≡ unsigned_abs (pos (s * n) -ℤ pos (m * d)) → IsNearest s f k
+nearest_from : (s n d m : ℕ) (f : Fraction) (k : ℤ) → IsHalfUp (s * n) d m → unsigned_abs f.num ≡ n → unsigned_abs f.den ≡ d → unsigned_abs k ≡ m
+    → unsigned_abs (pos s *ℤ f.num -ℤ k *ℤ f.den) ≡ unsigned_abs (pos (s * n) -ℤ pos (m * d)) → IsNearest s f k
 nearest_from s n d m f k half a b c e =
     let h = near_from_half_up (s * n) (m * d) d half.0 half.1 in
     record {
       near = omega (arith, e, b, h.near);
-      away = λ t. let le = h.away (ap (λ x. 2 * x) (sym e) ∙ t ∙ b) in omega (arith, le, ap (λ x. s * x) a, ap (λ x. x * unsigned_abs f.den) c, ap (λ x. m * x) b);
+      away =
+          λ t. let le = h.away (ap (λ x. 2 * x) (sym e) ∙ t ∙ b) in omega (arith, le, ap (λ x. s * x) a, ap (λ x. x * unsigned_abs f.den) c, ap (λ x. m * x) b);
     }
 
 -- at 0 or more, and below 0
@@ -76,7 +79,8 @@ nearest_plain s n d m half = nearest_from s n d m _ (pos m) half refl refl refl 
 
 pub nearest_negative : (s n d m : ℕ) → IsHalfUp (s * n) d m → IsNearest s (record { num = neg_ℤ (pos n); den = pos d }) (neg_ℤ (pos m))
 nearest_negative s n d m half = nearest_from s n d m _ (neg_ℤ (pos m)) half (unsigned_abs-neg (pos n)) refl (unsigned_abs-neg (pos m))
-    (ap unsigned_abs (ring4 (λ s n m d. s ⊗ neg n ⊖ neg m ⊗ d ≗ neg (s ⊗ n ⊖ m ⊗ d)) refl (pos s) (pos n) (pos m) (pos d)) ∙ unsigned_abs-neg (pos s *ℤ pos n -ℤ pos m *ℤ pos d))
+    (ap unsigned_abs (ring4 (λ s n m d. s ⊗ neg n ⊖ neg m ⊗ d ≗ neg (s ⊗ n ⊖ m ⊗ d)) refl (pos s) (pos n) (pos m) (pos d))
+    ∙ unsigned_abs-neg (pos s *ℤ pos n -ℤ pos m *ℤ pos d))
 
 -- zeros before digits
 zeros_value : (count : ℕ) (ds : List ℕ) → digits_value 10 (replicate count 48 ++ ds) ≡ digits_value 10 ds
@@ -92,7 +96,8 @@ zeros_length zero ds = omega arith
 zeros_length (suc count) ds = omega (arith, zeros_length count ds)
 
 -- the text of the rounded size, with its sign
-pub decimal_from : (f : Fraction) (k : ℤ) (places whole part : ℕ) (text : List ℕ) → 1 ≤ places → places ≤ 18 → part < 10 ^ places → IsNearest (10 ^ places) f k → unsigned_abs k ≡ whole * 10 ^ places + part → text ≡ sign_text k ++ (decimal whole ++ 46 ∷ padded_digits places part) → IsDecimal f places text
+pub decimal_from : (f : Fraction) (k : ℤ) (places whole part : ℕ) (text : List ℕ) → 1 ≤ places → places ≤ 18 → part < 10 ^ places → IsNearest (10 ^ places) f k
+    → unsigned_abs k ≡ whole * 10 ^ places + part → text ≡ sign_text k ++ (decimal whole ++ 46 ∷ padded_digits places part) → IsDecimal f places text
 decimal_from f k places whole part text some few below near size parts =
     let small : part < 10 ^ 64 = omega (arith, ten_small places few) in
     let numeral = decimal_is_IsNumeral_wide part small in
@@ -115,28 +120,37 @@ size_positive whole part places some = omega (arith, mul-le-mul_left whole (ten_
 
 -- the text is the fraction's decimal
 module _ (d places whole part : ℕ) (text : List ℕ) (some : 1 ≤ places) (few : places ≤ 18) (below : part < 10 ^ places) where
-  plain : (n : ℕ) (minus : Bool) → IsHalfUp (10 ^ places * n) d (whole * 10 ^ places + part) → (minus ≡ true → ⊥) → text ≡ pointed_text minus whole part places → IsDecimal (record { num = pos n; den = pos d }) places text
+  plain : (n : ℕ) (minus : Bool) → IsHalfUp (10 ^ places * n) d (whole * 10 ^ places + part) → (minus ≡ true → ⊥) → text ≡ pointed_text minus whole part places
+      → IsDecimal (record { num = pos n; den = pos d }) places text
   plain n true half refuted e = absurd (refuted refl)
-  plain n false half refuted e = decimal_from _ (pos (whole * 10 ^ places + part)) places whole part text some few below (nearest_plain (10 ^ places) n d (whole * 10 ^ places + part) half) refl e
+  plain n false half refuted e =
+      decimal_from _ (pos (whole * 10 ^ places + part)) places whole part text some few below
+      (nearest_plain (10 ^ places) n d (whole * 10 ^ places + part) half) refl e
 
-  negative : (n m : ℕ) (minus : Bool) → m ≡ whole * 10 ^ places + part → IsHalfUp (10 ^ places * n) d m → minus ≡ true ↔ 0 < whole + part → text ≡ pointed_text minus whole part places → IsDecimal (record { num = neg_ℤ (pos n); den = pos d }) places text
+  negative : (n m : ℕ) (minus : Bool) → m ≡ whole * 10 ^ places + part → IsHalfUp (10 ^ places * n) d m → minus ≡ true ↔ 0 < whole + part
+      → text ≡ pointed_text minus whole part places → IsDecimal (record { num = neg_ℤ (pos n); den = pos d }) places text
   negative n zero true size half sign e = absurd (omega (arith, size_positive whole part places (sign.0 refl)))
   negative n zero false size half sign e = decimal_from _ (pos 0) places whole part text some few below (nearest_negative (10 ^ places) n d 0 half) size e
-  negative n (suc m) true size half sign e = decimal_from _ (negsuc m) places whole part text some few below (nearest_negative (10 ^ places) n d (suc m) half) size e
+  negative n (suc m) true size half sign e =
+      decimal_from _ (negsuc m) places whole part text some few below (nearest_negative (10 ^ places) n d (suc m) half) size e
   negative n (suc m) false size half sign e =
       let nothing : ¬ (0 < whole + part) = λ l. absurd (false≢true (sign.1 l)) in
       let no_whole : whole ≡ 0 = omega arith in
       absurd (omega (arith, size, ap (λ w. w * 10 ^ places) no_whole))
 
-  either : (num : ℤ) (minus : Bool) → IsHalfUp (10 ^ places * unsigned_abs num) d (whole * 10 ^ places + part) → minus ≡ true ↔ ((num <ℤ pos 0) × (0 < whole + part)) → text ≡ pointed_text minus whole part places → IsDecimal (record { num = num; den = pos d }) places text
+  either : (num : ℤ) (minus : Bool) → IsHalfUp (10 ^ places * unsigned_abs num) d (whole * 10 ^ places + part) → minus ≡ true
+      ↔ ((num <ℤ pos 0) × (0 < whole + part)) → text ≡ pointed_text minus whole part places → IsDecimal (record { num = num; den = pos d }) places text
   either (pos n) minus half sign e = plain n minus half (λ t. let l = (sign.0 t).0 in omega (arith, ints)) e
   either (negsuc n) minus half sign e =
       let below_zero : negsuc n <ℤ pos 0 = record { lt = tt } in
       negative (suc n) (whole * 10 ^ places + part) minus refl half ((λ t. (sign.0 t).1), λ l. sign.1 (below_zero, l)) e
 
-pub decimal_is : (f : Fraction) (places whole part : ℕ) (minus : Bool) (text : List ℕ) → 1 ≤ places → places ≤ 18 → part < 10 ^ places → pos 0 <ℤ f.den → IsHalfUp (10 ^ places * unsigned_abs f.num) (unsigned_abs f.den) (whole * 10 ^ places + part) → minus ≡ true ↔ ((f.num <ℤ pos 0) × (0 < whole + part)) → text ≡ pointed_text minus whole part places → IsDecimal f places text
+pub decimal_is : (f : Fraction) (places whole part : ℕ) (minus : Bool) (text : List ℕ) → 1 ≤ places → places ≤ 18 → part < 10 ^ places → pos 0 <ℤ f.den
+    → IsHalfUp (10 ^ places * unsigned_abs f.num) (unsigned_abs f.den) (whole * 10 ^ places + part) → minus ≡ true ↔ ((f.num <ℤ pos 0) × (0 < whole + part))
+    → text ≡ pointed_text minus whole part places → IsDecimal f places text
 decimal_is f places whole part minus text some few below positive half sign e =
-    subst (λ z. IsDecimal (record { num = f.num; den = z }) places text) (pos-unsigned_abs f.den (le_of_lt (pos 0) f.den positive)) (either (unsigned_abs f.den) places whole part text some few below f.num minus half sign e)
+    subst (λ z. IsDecimal (record { num = f.num; den = z }) places text) (pos-unsigned_abs f.den (le_of_lt (pos 0) f.den positive))
+    (either (unsigned_abs f.den) places whole part text some few below f.num minus half sign e)
 
 -- what `{:0width$}` writes
 module _ (width : ℕ) (numeral : List ℕ) where
@@ -147,5 +161,6 @@ module _ (width : ℕ) (numeral : List ℕ) where
   unfolding padded_integral char_count
   zeros_before = rw (padding_is, append-nil numeral)
 
-pub padded_is : (width places part : ℕ) → width ≡ places → padded_integral (format_spec 32 0 4 width (2 ^ 64 - 1)) false [] (decimal part) ≡ padded_digits places part
+pub padded_is : (width places part : ℕ) → width ≡ places
+    → padded_integral (format_spec 32 0 4 width (2 ^ 64 - 1)) false [] (decimal part) ≡ padded_digits places part
 padded_is width places part e = zeros_before width (decimal part) ∙ ap (λ w. padded_digits w part) e

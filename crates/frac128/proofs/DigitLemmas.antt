@@ -29,7 +29,8 @@ pub digit_bounds : (ds : List ℕ) (i : ℕ) → AllDigits 10 ds → i < length 
 digit_bounds ds i d l = let h = digit_at ds i d l in (omega arith, omega arith)
 
 -- one more digit
-pub value_more : (ds : List ℕ) (i : ℕ) → AllDigits 10 ds → i < length ds → digits_value 10 (take (i + 1) ds) ≡ digits_value 10 (take i ds) * 10 + (get_or ds i 0 - 48)
+pub value_more : (ds : List ℕ) (i : ℕ) → AllDigits 10 ds → i < length ds
+    → digits_value 10 (take (i + 1) ds) ≡ digits_value 10 (take i ds) * 10 + (get_or ds i 0 - 48)
 value_more ds i d l = omega (arith, digits_value_more 10 ds i l, digit_value_digit (get_or ds i 0) (digit_at ds i d l))
 
 -- the first digits write no more than all

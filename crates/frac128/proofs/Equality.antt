@@ -4,7 +4,7 @@ use Rattle.std.specs.Ordering.{int_eq}
 use Rattle.std.specs.Cmp.{signed_Decides, unsigned_Decides}
 use Rattle.std.specs.Cmp.Lexicographic.{pointwise, pointwise_decides}
 use Rattle.std.specs.Cmp.Rules.{signed_items}
-use Rattle.std.proofs.Common.{◌≡◌, Bool, true, false, ◌&&◌, nat_eq, ℕ, ℤ, List, refl, sym, ap, ap₂, ◌∙◌, arith}
+use Rattle.std.proofs.Common.{◌≡◌, Bool, true, false, ◌&&◌, nat_eq, ℕ, ℤ, refl, ap, arith}
 use Rattle.frac128.specs.Problem.{ProblemData}
 use Rattle.frac128.specs.Equality.{is_same_row, is_same_problem}
 use Rattle.frac128.specs.declared.problem.Cert.{Cert}
@@ -23,16 +23,27 @@ pair_Decides x y =
 
 pub row_Decides : (a b : Row) → Decides (is_same_row a b) (a ≡ b)
 row_Decides a b =
-    let h = both_Decides (pointwise int_eq a.coefs b.coefs) (int_eq a.bound b.bound) (a.coefs ≡ b.coefs) (a.bound ≡ b.bound) (signed_items a.coefs b.coefs) (signed_Decides a.bound b.bound) in
+    let h =
+    both_Decides (pointwise int_eq a.coefs b.coefs) (int_eq a.bound b.bound) (a.coefs ≡ b.coefs) (a.bound ≡ b.bound) (signed_items a.coefs b.coefs)
+    (signed_Decides a.bound b.bound) in
     (λ e. let p = h.0 e in λ i. record { coefs = p.0 i; bound = p.1 i }, λ e. h.1 (ap (λ (r : Row). r.coefs) e, ap (λ (r : Row). r.bound) e))
 
 pub cert_Decides : (a b : Cert) → Decides (int_eq a.den b.den && pointwise (λ (x y : ℕ × ℤ). nat_eq x.0 y.0 && int_eq x.1 y.1) a.on b.on) (a ≡ b)
 cert_Decides a b =
-    let h = both_Decides (int_eq a.den b.den) (pointwise (λ (x y : ℕ × ℤ). nat_eq x.0 y.0 && int_eq x.1 y.1) a.on b.on) (a.den ≡ b.den) (a.on ≡ b.on) (signed_Decides a.den b.den) (pointwise_decides pair_Decides a.on b.on) in
+    let h =
+    both_Decides (int_eq a.den b.den) (pointwise (λ (x y : ℕ × ℤ). nat_eq x.0 y.0 && int_eq x.1 y.1) a.on b.on) (a.den ≡ b.den) (a.on ≡ b.on)
+    (signed_Decides a.den b.den) (pointwise_decides pair_Decides a.on b.on) in
     (λ e. let p = h.0 e in λ i. record { den = p.0 i; on = p.1 i }, λ e. h.1 (ap (λ (c : Cert). c.den) e, ap (λ (c : Cert). c.on) e))
 
 pub problem_Decides : (p q : ProblemData) → Decides (is_same_problem p q) (p ≡ q)
 problem_Decides p q =
-    let lists = both_Decides (pointwise int_eq p.cost q.cost) (pointwise is_same_row p.rows q.rows) (p.cost ≡ q.cost) (p.rows ≡ q.rows) (signed_items p.cost q.cost) (pointwise_decides row_Decides p.rows q.rows) in
-    let h = both_Decides (nat_eq p.vars q.vars) (pointwise int_eq p.cost q.cost && pointwise is_same_row p.rows q.rows) (p.vars ≡ q.vars) ((p.cost ≡ q.cost) × (p.rows ≡ q.rows)) (unsigned_Decides p.vars q.vars) lists in
-    (λ e. let k = h.0 e in λ i. record { vars = k.0 i; cost = k.1.0 i; rows = k.1.1 i }, λ e. h.1 (ap (λ (r : ProblemData). r.vars) e, (ap (λ (r : ProblemData). r.cost) e, ap (λ (r : ProblemData). r.rows) e)))
+    let lists =
+    both_Decides (pointwise int_eq p.cost q.cost) (pointwise is_same_row p.rows q.rows) (p.cost ≡ q.cost) (p.rows ≡ q.rows) (signed_items p.cost q.cost)
+    (pointwise_decides row_Decides p.rows q.rows) in
+    let h =
+    both_Decides (nat_eq p.vars q.vars) (pointwise int_eq p.cost q.cost && pointwise is_same_row p.rows q.rows) (p.vars ≡ q.vars)
+    ((p.cost ≡ q.cost) × (p.rows ≡ q.rows)) (unsigned_Decides p.vars q.vars) lists in (
+      λ e. let k = h.0 e in λ i. record { vars = k.0 i; cost = k.1.0 i; rows = k.1.1 i },
+      λ e. h.1
+          (ap (λ (r : ProblemData). r.vars) e, (ap (λ (r : ProblemData). r.cost) e, ap (λ (r : ProblemData). r.rows) e)),
+    )

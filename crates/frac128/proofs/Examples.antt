@@ -30,7 +30,9 @@ costs_ok = record {
   one_each = refl;
   cost_nonneg = All-cons (λ x. pos 0 ≤ℤ x) (pos 2) (pos 5 ∷ []) (le_z_yes tt) (All-cons (λ x. pos 0 ≤ℤ x) (pos 5) [] (le_z_yes tt) (All-nil (λ x. pos 0 ≤ℤ x)));
   cost_in_range = both_in_range (pos 2) (pos 5) (lit< tt) (lit< tt);
-  rows_fit = All-cons (IsRow 2) gap [] (record { one_each = refl; coefs_in_range = both_in_range (pos 1) (negsuc 0) (lit< tt) (lit< tt); bound_in_range = lit< tt }) (All-nil (IsRow 2));
+  rows_fit =
+      All-cons (IsRow 2) gap [] (record { one_each = refl; coefs_in_range = both_in_range (pos 1) (negsuc 0) (lit< tt) (lit< tt); bound_in_range = lit< tt })
+      (All-nil (IsRow 2));
 }
 
 -- one row alone is named by its position
@@ -69,16 +71,26 @@ second : (a b m : ℤ) → IsFeasible costs (a ∷ b ∷ []) m → pos 0 ≤ℤ 
 second a b m f = All-head (λ x. pos 0 ≤ℤ x) b [] (All-tail (λ x. pos 0 ≤ℤ x) a (b ∷ []) f.nonneg)
 
 -- no point costs less than 6
-cheaper : (a b m : ℤ) → (pos 3 *ℤ m) ≤ℤ (pos 1 *ℤ a +ℤ (negsuc 0 *ℤ b +ℤ pos 0)) → pos 0 ≤ℤ b → ¬ ((pos 2 *ℤ a +ℤ (pos 5 *ℤ b +ℤ pos 0)) *ℤ pos 1) <ℤ (pos 6 *ℤ m)
-cheaper a b m h k less = <ℤ_irrefl (combine3 (λ a b m. con (pos 0) ≺ con (pos 0) ⇐ con (pos 2) ✶ (con (pos 3) ⊗ m ≼ con (pos 1) ⊗ a ⊕ (con (negsuc 0) ⊗ b ⊕ con (pos 0))) ∷ con (pos 7) ✶ (con (pos 0) ≼ b) ∷ con (pos 1) ✶ ((con (pos 2) ⊗ a ⊕ (con (pos 5) ⊗ b ⊕ con (pos 0))) ⊗ con (pos 1) ≺ con (pos 6) ⊗ m) ∷ []) refl a b m (le_z_yes tt) h (le_z_yes tt) k (lt_z_yes tt) less)
+cheaper : (a b m : ℤ) → (pos 3 *ℤ m) ≤ℤ (pos 1 *ℤ a +ℤ (negsuc 0 *ℤ b +ℤ pos 0)) → pos 0 ≤ℤ b
+    → ¬ ((pos 2 *ℤ a +ℤ (pos 5 *ℤ b +ℤ pos 0)) *ℤ pos 1) <ℤ (pos 6 *ℤ m)
+cheaper a b m h k less =
+    <ℤ_irrefl (combine3 (λ a b m. con (pos 0) ≺ con (pos 0)
+    ⇐ con (pos 2) ✶ (con (pos 3) ⊗ m ≼ con (pos 1) ⊗ a ⊕ (con (negsuc 0) ⊗ b ⊕ con (pos 0))) ∷ con (pos 7) ✶ (con (pos 0) ≼ b)
+    ∷ con (pos 1) ✶ ((con (pos 2) ⊗ a ⊕ (con (pos 5) ⊗ b ⊕ con (pos 0))) ⊗ con (pos 1) ≺ con (pos 6) ⊗ m) ∷ []) refl a b m (le_z_yes tt) h (le_z_yes tt) k
+    (lt_z_yes tt) less)
 
 -- no point has a first number below 3
 shorter : (a b m : ℤ) → (pos 3 *ℤ m) ≤ℤ (pos 1 *ℤ a +ℤ (negsuc 0 *ℤ b +ℤ pos 0)) → pos 0 ≤ℤ b → ¬ (a *ℤ pos 1) <ℤ (pos 3 *ℤ m)
-shorter a b m h k less = <ℤ_irrefl (combine3 (λ a b m. con (pos 0) ≺ con (pos 0) ⇐ con (pos 1) ✶ (con (pos 3) ⊗ m ≼ con (pos 1) ⊗ a ⊕ (con (negsuc 0) ⊗ b ⊕ con (pos 0))) ∷ con (pos 1) ✶ (con (pos 0) ≼ b) ∷ con (pos 1) ✶ (a ⊗ con (pos 1) ≺ con (pos 3) ⊗ m) ∷ []) refl a b m (le_z_yes tt) h (le_z_yes tt) k (lt_z_yes tt) less)
+shorter a b m h k less =
+    <ℤ_irrefl (combine3 (λ a b m. con (pos 0) ≺ con (pos 0)
+    ⇐ con (pos 1) ✶ (con (pos 3) ⊗ m ≼ con (pos 1) ⊗ a ⊕ (con (negsuc 0) ⊗ b ⊕ con (pos 0))) ∷ con (pos 1) ✶ (con (pos 0) ≼ b)
+    ∷ con (pos 1) ✶ (a ⊗ con (pos 1) ≺ con (pos 3) ⊗ m) ∷ []) refl a b m (le_z_yes tt) h (le_z_yes tt) k (lt_z_yes tt) less)
 
 -- no point has a second number below 0
 negative : (b m : ℤ) → pos 0 ≤ℤ b → ¬ (b *ℤ pos 1) <ℤ (pos 0 *ℤ m)
-negative b m k less = <ℤ_irrefl (combine2 (λ b m. con (pos 0) ≺ con (pos 0) ⇐ con (pos 1) ✶ (con (pos 0) ≼ b) ∷ con (pos 1) ✶ (b ⊗ con (pos 1) ≺ con (pos 0) ⊗ m) ∷ []) refl b m (le_z_yes tt) k (lt_z_yes tt) less)
+negative b m k less =
+    <ℤ_irrefl (combine2 (λ b m. con (pos 0) ≺ con (pos 0) ⇐ con (pos 1) ✶ (con (pos 0) ≼ b) ∷ con (pos 1) ✶ (b ⊗ con (pos 1) ≺ con (pos 0) ⊗ m) ∷ []) refl b m
+    (le_z_yes tt) k (lt_z_yes tt) less)
 
 -- and is the least
 pub three_least : IsLeast costs (pos 3 ∷ pos 0 ∷ []) (pos 1)
@@ -89,10 +101,15 @@ three_least = record { feasible = three_feasible; none_before = none }
     none (a ∷ []) m f below = absurd (let e = f.one_each in omega arith)
     none (a ∷ b ∷ c ∷ y) m f below = absurd (let e = f.one_each in omega arith)
     none (a ∷ b ∷ []) m f (inl less) = cheaper a b m (met a b m f) (second a b m f) less
-    none (a ∷ b ∷ []) m f (inr h) = elim h.1 [ inl less ↦ shorter a b m (met a b m f) (second a b m f) less | inr k ↦ elim k.1 [ inl less ↦ negative b m (second a b m f) less | inr end ↦ end.1 ] ]
+    none (a ∷ b ∷ []) m f (inr h) =
+        elim h.1 [
+          | inl less ↦ shorter a b m (met a b m f) (second a b m f) less
+          | inr k ↦ elim k.1 [ inl less ↦ negative b m (second a b m f) less | inr end ↦ end.1 ]
+        ]
 
 -- the row -x ≥ 1 is met by no number of at least 0
-pub refuted : IsFarkasCertificate (record { vars = 1; cost = pos 0 ∷ []; rows = record { coefs = negsuc 0 ∷ []; bound = pos 1 } ∷ [] }) (record { den = pos 1; on = (0, pos 1) ∷ [] })
+pub refuted : IsFarkasCertificate (record { vars = 1; cost = pos 0 ∷ []; rows = record { coefs = negsuc 0 ∷ []; bound = pos 1 } ∷ [] })
+    (record { den = pos 1; on = (0, pos 1) ∷ [] })
 refuted = record {
   entries = one_entry (pos 1) (le_z_yes tt);
   none_above = All-cons (λ c. c ≤ℤ pos 0) (negsuc 0) [] (le_z_yes tt) (All-nil (λ c. c ≤ℤ pos 0));
@@ -107,7 +124,8 @@ unfolding checked_sum lowest_terms gcd_of
 sixth_and_third = refl
 
 -- 1/2 - 2/3 = -1/6
-half_less_two_thirds : checked_difference (record { num = pos 1; den = pos 2 }) (record { num = pos 2; den = pos 3 }) ≡ Ok (record { num = negsuc 0; den = pos 6 })
+half_less_two_thirds : checked_difference (record { num = pos 1; den = pos 2 }) (record { num = pos 2; den = pos 3 })
+    ≡ Ok (record { num = negsuc 0; den = pos 6 })
 unfolding checked_difference checked_sum lowest_terms gcd_of
 half_less_two_thirds = refl
 

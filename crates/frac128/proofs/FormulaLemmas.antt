@@ -1,13 +1,14 @@
 -- What a formula gives, step by step: where a step gives a fraction, it is the number that the step is named for.
 use Rattle.std.specs.Result.{IfOk}
-use Rattle.std.proofs.Common.{◌≡◌, ◌≢◌, Result, Ok, Err, pos}
+use Rattle.std.proofs.Common.{◌≢◌, Result, Ok, Err, pos}
 use Rattle.integers.specs.Fraction.{Fraction, IsFraction, SameFraction, fraction_sum, fraction_difference, fraction_product, fraction_quotient}
 use Rattle.frac128.specs.Checked.{◌>>=◌, IsExact, checked_sum, checked_difference, checked_product, checked_quotient, SumFits, DifferenceFits, ProductFits, QuotientFits}
 use Rattle.frac128.specs.declared.number.TooWide.{TooWide}
 use Rattle.frac128.proofs.Checked.{checked_sum-exact, checked_difference-exact, checked_product-exact, checked_quotient-exact}
 
 -- what holds of the last step holds of the chain
-pub IfOk-bind : {A B E : Type 0} (r : Result A E) (next : A → Result B E) (P : A → Type 0) (Q : B → Type 0) → IfOk r P → ((x : A) → P x → IfOk (next x) Q) → IfOk (r >>= next) Q
+pub IfOk-bind : {A B E : Type 0} (r : Result A E) (next : A → Result B E) (P : A → Type 0) (Q : B → Type 0) → IfOk r P → ((x : A) → P x → IfOk (next x) Q)
+    → IfOk (r >>= next) Q
 IfOk-bind (Ok x) next P Q h then = then x h
 IfOk-bind (Err e) next P Q h then = tt
 

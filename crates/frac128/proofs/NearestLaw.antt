@@ -35,7 +35,8 @@ below_zero x a d e =
     e ∙ ring2 (λ b d. neg b ⊗ d ⊕ neg b ⊗ d ⊕ d ≗ neg (b ⊗ d ⊕ b ⊗ d ⊖ d)) refl (pos (suc a)) (pos d) ∙ ap neg_ℤ same
 
 -- halfway between k and the next number, the size is above that of one of the two
-halfway : (x k : ℤ) (d : ℕ) → 0 < d → x +ℤ x ≡ k *ℤ pos d +ℤ k *ℤ pos d +ℤ pos d → unsigned_abs x ≤ unsigned_abs k * d → unsigned_abs x ≤ unsigned_abs (k +ℤ pos 1) * d → ⊥
+halfway : (x k : ℤ) (d : ℕ) → 0 < d → x +ℤ x ≡ k *ℤ pos d +ℤ k *ℤ pos d +ℤ pos d → unsigned_abs x ≤ unsigned_abs k * d
+    → unsigned_abs x ≤ unsigned_abs (k +ℤ pos 1) * d → ⊥
 halfway x (pos a) d some e p q =
     let twice : x +ℤ x ≡ pos (a * d + a * d + d) = e in
     let size : unsigned_abs x + unsigned_abs x ≡ a * d + a * d + d = twice_size x (a * d + a * d + d) (inl twice) in
@@ -46,7 +47,8 @@ halfway x (negsuc a) d some e p q =
     omega (arith, size, least)
 
 -- no nearest number is below another
-module _ (s : ℕ) (num k l : ℤ) (d : ℕ) (some : 0 < d) (h : IsNearest s (record { num = num; den = pos d }) k) (j : IsNearest s (record { num = num; den = pos d }) l) (less : k <ℤ l) where
+module _ (s : ℕ) (num k l : ℤ) (d : ℕ) (some : 0 < d) (h : IsNearest s (record { num = num; den = pos d }) k)
+    (j : IsNearest s (record { num = num; den = pos d }) l) (less : k <ℤ l) where
   positive : pos 0 <ℤ pos d
   positive = omega (arith, ints)
 
@@ -73,7 +75,8 @@ module _ (s : ℕ) (num k l : ℤ) (d : ℕ) (some : 0 < d) (h : IsNearest s (re
       let e = both_halves in
       let low = h.away (size_of_half (pos s *ℤ num -ℤ k *ℤ pos d) d (inl (omega (arith, lin, e.1)))) in
       let high = j.away (size_of_half (pos s *ℤ num -ℤ l *ℤ pos d) d (inr (omega (arith, lin, e.0, e.1)))) in
-      halfway (pos s *ℤ num) k d some e.1 (omega (arith, size, low)) (subst (λ z. unsigned_abs (pos s *ℤ num) ≤ unsigned_abs z * d) next (omega (arith, size, high)))
+      halfway (pos s *ℤ num) k d some e.1 (omega (arith, size, low))
+      (subst (λ z. unsigned_abs (pos s *ℤ num) ≤ unsigned_abs z * d) next (omega (arith, size, high)))
 
 -- the fraction is rounded to one number
 one_over : (s : ℕ) (num k l : ℤ) (d : ℕ) → 0 < d → IsNearest s (record { num = num; den = pos d }) k → IsNearest s (record { num = num; den = pos d }) l → k ≡ l

@@ -11,7 +11,8 @@ use Rattle.frac128.specs.Range.{IsInRange}
 
 -- a quotient lowered by 1 with the rest raised by the divisor
 pub lowered : (a d q r x y : ℤ) → q *ℤ d +ℤ r ≡ a → x ≡ q -ℤ pos 1 → y ≡ r +ℤ d → a ≡ x *ℤ d +ℤ y
-lowered = combine6 (λ a d q r x y. a ≗ x ⊗ d ⊕ y ⇐ neg (con (pos 1)) ✶ (q ⊗ d ⊕ r ≗ a) ∷ neg d ✶ (x ≗ q ⊖ con (pos 1)) ∷ neg (con (pos 1)) ✶ (y ≗ r ⊕ d) ∷ []) refl
+lowered =
+    combine6 (λ a d q r x y. a ≗ x ⊗ d ⊕ y ⇐ neg (con (pos 1)) ✶ (q ⊗ d ⊕ r ≗ a) ∷ neg d ✶ (x ≗ q ⊖ con (pos 1)) ∷ neg (con (pos 1)) ✶ (y ≗ r ⊕ d) ∷ []) refl
 
 -- a greatest common divisor is below what both numbers are below
 pub IsGcd-below : (a b g n : ℕ) → a < n → b < n → IsGcd a b g → g < n
@@ -22,7 +23,8 @@ IsGcd-below a b g n p q h = cases (eq-zero-or-pos b)
     cases (inr s) = let least = le_of_dvd s h.1 in omega arith
 
 -- both parts of a fraction divided by their greatest common divisor
-pub lowest_parts : (a b z : ℤ) → pos 0 <ℤ b → IsGcdOf a b (unsigned_abs z) → pos 0 ≤ℤ z → IsLowest (int_div a z) (int_div b z) × (pos 0 <ℤ int_div b z) × (a *ℤ int_div b z ≡ int_div a z *ℤ b)
+pub lowest_parts : (a b z : ℤ) → pos 0 <ℤ b → IsGcdOf a b (unsigned_abs z) → pos 0 ≤ℤ z → IsLowest (int_div a z) (int_div b z) × (pos 0 <ℤ int_div b z)
+    × (a *ℤ int_div b z ≡ int_div a z *ℤ b)
 lowest_parts a b (pos n) p h s = lowest_terms a b n p h
 lowest_parts a b (negsuc n) p h s = absurd s.le
 

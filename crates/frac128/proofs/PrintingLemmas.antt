@@ -28,12 +28,22 @@ writes_sizes n d true p some q one =
 writes_sizes n d false p some q one =
     let k = decimal_is_IsNumeral_wide n p in
     let m = decimal_is_IsNumeral_wide d q in
-    inr (record { top = decimal n; bottom = decimal d; parts = refl; top_digits = k.0; bottom_digits = m.0; num_is = sym k.1; den_is = sym m.1; den_positive = some })
+    inr (record {
+      top = decimal n;
+      bottom = decimal d;
+      parts = refl;
+      top_digits = k.0;
+      bottom_digits = m.0;
+      num_is = sym k.1;
+      den_is = sym m.1;
+      den_positive = some;
+    })
 
 -- the numerator with its sign
 writes_signed : (z : ℤ) (d : ℕ) (b : Bool) → unsigned_abs z < 10 ^ 64 → 0 < d → d < 10 ^ 64 → (b ≡ true → d ≡ 1) → Writes (signed_decimal z ++ den_text d b) z d
 writes_signed (pos n) d b p some q one = inl (record { size = n; unsigned = writes_sizes n d b p some q one; num_is = refl })
-writes_signed (negsuc n) d b p some q one = inr (record { rest = decimal (suc n) ++ den_text d b; size = suc n; parts = refl; unsigned = writes_sizes (suc n) d b p some q one; num_is = refl })
+writes_signed (negsuc n) d b p some q one =
+    inr (record { rest = decimal (suc n) ++ den_text d b; size = suc n; parts = refl; unsigned = writes_sizes (suc n) d b p some q one; num_is = refl })
 
 -- the fraction is what its text is read as
 pub reading_of_printed : (f : Fraction) → IsReduced f → IsInRange f.num → IsInRange f.den → IsReading (frac_text f) f
@@ -61,7 +71,8 @@ one_fraction f g bytes h k =
     λ i. record { num = parts.0 i; den = parts.1 i }
 
 -- and are not refused
-pub read_back : (f : Fraction) (bytes : List ℕ) (r : Result Fraction FracFault) → IsReading bytes f → IfOk r (λ g. IsReading bytes g) → IsErrOf r BadNumber ↔ WritesNone bytes → IsErrOf r TooWide ↔ IsTooWide bytes → r ≡ Ok f
+pub read_back : (f : Fraction) (bytes : List ℕ) (r : Result Fraction FracFault) → IsReading bytes f → IfOk r (λ g. IsReading bytes g) → IsErrOf r BadNumber
+    ↔ WritesNone bytes → IsErrOf r TooWide ↔ IsTooWide bytes → r ≡ Ok f
 read_back f bytes (Ok g) h k bad wide = ap Ok (one_fraction f g bytes h k)
 read_back f bytes (Err BadNumber) h k bad wide = let v = h.1 in absurd (bad.0 refl v.0 v.1.0 v.1.1)
 read_back f bytes (Err TooWide) h k bad wide =

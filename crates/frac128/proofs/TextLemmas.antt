@@ -14,7 +14,8 @@ slash_at text n d q = (
 )
 
 -- with no `/`, the text is digits
-pub digits_without_slash : (text : List ℕ) (n d : ℕ) → ((k : ℕ) → k < length text → get_or text k 0 ≢ 47) → WritesUnsigned text n d → IsNumeral 10 text × (n ≡ digits_value 10 text) × (d ≡ 1)
+pub digits_without_slash : (text : List ℕ) (n d : ℕ) → ((k : ℕ) → k < length text → get_or text k 0 ≢ 47) → WritesUnsigned text n d → IsNumeral 10 text
+    × (n ≡ digits_value 10 text) × (d ≡ 1)
 digits_without_slash text n d none (inl h) = h
 digits_without_slash text n d none (inr q) = let s = slash_at text n d q in absurd (none (length q.top) s.0 s.1)
 
@@ -27,19 +28,24 @@ pub record QuotientAt (text : List ℕ) (i n d : ℕ) : Type 0 where
   pub den_positive : 0 < d
 
 -- the top ends at the first `/`
-same_end : (text : List ℕ) (i n d : ℕ) → i < length text → get_or text i 0 ≡ 47 → ((k : ℕ) → k < i → get_or text k 0 ≢ 47) → (q : WritesQuotient text n d) → length q.top ≡ i
+same_end : (text : List ℕ) (i n d : ℕ) → i < length text → get_or text i 0 ≡ 47 → ((k : ℕ) → k < i → get_or text k 0 ≢ 47) → (q : WritesQuotient text n d)
+    → length q.top ≡ i
 same_end text i n d inside here before q =
     let s = slash_at text n d q in
     let not_before : ¬ (length q.top < i) = λ l. before (length q.top) l s.1 in
-    let not_behind : ¬ (i < length q.top) = λ l. no_other_digit q.top i 47 q.top_digits.1 l (omega arith) (sym (ap (λ t. get_or t i 0) q.parts ∙ get_or-append q.top (47 ∷ q.bottom) 0 i l) ∙ here) in
+    let not_behind : ¬ (i < length q.top) =
+    λ l. no_other_digit q.top i 47 q.top_digits.1 l (omega arith)
+    (sym (ap (λ t. get_or t i 0) q.parts ∙ get_or-append q.top (47 ∷ q.bottom) 0 i l) ∙ here) in
     omega arith
 
-pub quotient_at_slash : (text : List ℕ) (i n d : ℕ) → i < length text → get_or text i 0 ≡ 47 → ((k : ℕ) → k < i → get_or text k 0 ≢ 47) → WritesUnsigned text n d → QuotientAt text i n d
+pub quotient_at_slash : (text : List ℕ) (i n d : ℕ) → i < length text → get_or text i 0 ≡ 47 → ((k : ℕ) → k < i → get_or text k 0 ≢ 47)
+    → WritesUnsigned text n d → QuotientAt text i n d
 quotient_at_slash text i n d inside here before (inl h) = absurd (no_other_digit text i 47 h.0.1 inside (omega arith) here)
 quotient_at_slash text i n d inside here before (inr q) =
     let end = same_end text i n d inside here before q in
     let front : take i text ≡ q.top = ap (λ k. take k text) (sym end) ∙ ap (take (length q.top)) q.parts ∙ take-append_seam q.top (47 ∷ q.bottom) in
-    let back : drop (i + 1) text ≡ q.bottom = ap (λ k. drop (k + 1) text) (sym end) ∙ ap (drop (length q.top + 1)) q.parts ∙ drop-append-add q.top (47 ∷ q.bottom) 1 in
+    let back : drop (i + 1) text ≡ q.bottom =
+    ap (λ k. drop (k + 1) text) (sym end) ∙ ap (drop (length q.top + 1)) q.parts ∙ drop-append-add q.top (47 ∷ q.bottom) 1 in
     record {
       top_digits = subst (IsNumeral 10) (sym front) q.top_digits;
       bottom_digits = subst (IsNumeral 10) (sym back) q.bottom_digits;
@@ -55,7 +61,9 @@ one_unsigned text n d m e (inl h) w =
     (h.1 ∙ sym k.1, h.2 ∙ sym k.2)
 one_unsigned text n d m e (inr q) w =
     let s = slash_at text n d q in
-    let clean : (k : ℕ) → k < length q.top → get_or text k 0 ≢ 47 = λ k l at. no_other_digit q.top k 47 q.top_digits.1 l (omega arith) (sym (ap (λ t. get_or t k 0) q.parts ∙ get_or-append q.top (47 ∷ q.bottom) 0 k l) ∙ at) in
+    let clean : (k : ℕ) → k < length q.top → get_or text k 0 ≢ 47 =
+    λ k l at. no_other_digit q.top k 47 q.top_digits.1 l (omega arith)
+    (sym (ap (λ t. get_or t k 0) q.parts ∙ get_or-append q.top (47 ∷ q.bottom) 0 k l) ∙ at) in
     let a = quotient_at_slash text (length q.top) n d s.0 s.1 clean (inr q) in
     let b = quotient_at_slash text (length q.top) m e s.0 s.1 clean w in
     (a.num_is ∙ sym b.num_is, a.den_is ∙ sym b.den_is)
@@ -64,8 +72,11 @@ one_unsigned text n d m e (inr q) w =
 pub first_digit : (text : List ℕ) (n d : ℕ) → WritesUnsigned text n d → (0 < length text) × (get_or text 0 0 ≢ 45)
 first_digit text n d (inl h) = (h.0.0, no_other_digit text 0 45 h.0.1 h.0.0 (omega arith))
 first_digit text n d (inr q) =
-    let s = slash_at text n d q in
-    (omega (arith, s.0), λ e. no_other_digit q.top 0 45 q.top_digits.1 q.top_digits.0 (omega arith) (sym (ap (λ t. get_or t 0 0) q.parts ∙ get_or-append q.top (47 ∷ q.bottom) 0 0 q.top_digits.0) ∙ e))
+    let s = slash_at text n d q in (
+      omega (arith, s.0),
+      λ e. no_other_digit q.top 0 45 q.top_digits.1 q.top_digits.0 (omega arith)
+          (sym (ap (λ t. get_or t 0 0) q.parts ∙ get_or-append q.top (47 ∷ q.bottom) 0 0 q.top_digits.0) ∙ e),
+    )
 
 -- the two numbers of a text
 pub one_reading : (bytes : List ℕ) (n m : ℤ) (d e : ℕ) → Writes bytes n d → Writes bytes m e → (n ≡ m) × (d ≡ e)

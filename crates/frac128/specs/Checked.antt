@@ -1,6 +1,6 @@
 -- Arithmetic of fractions that refuses numbers out of the range: what each call forms, and what it answers.
 -- A formula is a chain of these, as `do x ← checked_sum f g; checked_product x h`.
-use Rattle.std.specs.Prelude.{Bool, true, false, List, [], ◌∷◌, ℤ, ◌+ℤ◌, ◌*ℤ◌, int_div, Result, Ok, Err, MatchResult}
+use Rattle.std.specs.Prelude.{true, false, List, [], ◌∷◌, ℤ, ◌+ℤ◌, ◌*ℤ◌, int_div, Result, Ok, Err, MatchResult}
 use Rattle.std.specs.List.{list_all, AllByRecursion}
 use Rattle.integers.specs.Divisibility.{gcd_of}
 use Rattle.integers.specs.Fraction.{Fraction, SameFraction, fraction_sum, fraction_product}

@@ -20,12 +20,12 @@ abbrev pub is_same_problem : ProblemData → ProblemData → Bool
 is_same_problem = eq_of_both
     (on (λ (p : ProblemData). p.vars) nat_eq)
     (eq_of_both
-      (on (λ (p : ProblemData). p.cost) (pointwise int_eq))
-      (on (λ (p : ProblemData). p.rows) (pointwise is_same_row)))
+    (on (λ (p : ProblemData). p.cost) (pointwise int_eq))
+    (on (λ (p : ProblemData). p.rows) (pointwise is_same_row)))
 
 pub is_same_problem-laws : IsEquivalence is_same_problem
 is_same_problem-laws = and_equiv
     (on_equiv (λ (p : ProblemData). p.vars) nat_eq_equiv)
     (and_equiv
-      (on_equiv (λ (p : ProblemData). p.cost) (lists_equiv int_eq_equiv))
-      (on_equiv (λ (p : ProblemData). p.rows) (lists_equiv is_same_row-laws)))
+    (on_equiv (λ (p : ProblemData). p.cost) (lists_equiv int_eq_equiv))
+    (on_equiv (λ (p : ProblemData). p.rows) (lists_equiv is_same_row-laws)))

@@ -1,5 +1,5 @@
 -- Fractions in lowest terms.
-use Rattle.std.specs.Prelude.{ℕ, suc, ℤ, pos, negsuc, neg_ℤ, ◌+ℤ◌, ◌-ℤ◌, ◌*ℤ◌, ◌<ℤ◌, int_div}
+use Rattle.std.specs.Prelude.{suc, ℤ, pos, negsuc, neg_ℤ, ◌<ℤ◌, int_div}
 use Rattle.integers.specs.Divisibility.{IsLowest, gcd_of}
 use Rattle.integers.specs.Fraction.{Fraction}
 

@@ -51,7 +51,8 @@ WritesNone bytes = (num : ℤ) (den : ℕ) → ¬ (Writes bytes num den)
 -- the bytes write two numbers in the range, and f is their quotient in lowest terms
 abbrev pub IsReading : List ℕ → Fraction → Type 0
 IsReading bytes f =
-    IsReduced f × WritesSome bytes (λ num den. IsInRange num × IsInRange den × SameFraction f (record { num = num; den = den }))
+    IsReduced f
+    × WritesSome bytes (λ num den. IsInRange num × IsInRange den × SameFraction f (record { num = num; den = den }))
 
 -- the bytes write two numbers, and not both are in the range
 abbrev pub IsTooWide : List ℕ → Type 0

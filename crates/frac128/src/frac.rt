@@ -102,8 +102,8 @@ impl Frac {
         compare_numbers(self.num, self.den, other.num, other.den)
     }
 
-    /// The sum, in lowest terms. For `a / b + c / d` and the greatest common divisor `g` of `b` and `d`
-    /// it refuses where `a * (d / g)`, `c * (b / g)`, their sum or `b * (d / g)` is out of range.
+    /// The sum, in lowest terms. For `a / b + c / d` and the greatest common divisor `g` of `b` and
+    /// `d` it refuses where `a * (d / g)`, `c * (b / g)`, their sum or `b * (d / g)` is out of range.
     pub fn add(&self, other: &Frac) -> Result<Frac, TooWide>
         ensures is { result ≡ checked_sum self.now other.now }
         ensures exact { IsExact result (SumFits self.now other.now)
@@ -144,9 +144,9 @@ impl Frac {
         }
     }
 
-    /// The product, in lowest terms. For `a / b * c / d` and the greatest common divisors `g` of `a` and
-    /// `d` and `h` of `c` and `b` it refuses where `(a / g) * (c / h)` or `(b / h) * (d / g)` is out of
-    /// range.
+    /// The product, in lowest terms. For `a / b * c / d` and the greatest common divisors `g` of `a`
+    /// and `d` and `h` of `c` and `b` it refuses where `(a / g) * (c / h)` or `(b / h) * (d / g)` is
+    /// out of range.
     pub fn mul(&self, other: &Frac) -> Result<Frac, TooWide>
         ensures is { result ≡ checked_product self.now other.now }
         ensures exact { IsExact result (ProductFits self.now other.now)

@@ -11,8 +11,8 @@ ghost use Rattle.std.specs.Prelude.{◌≡◌, ◌≢◌, ◌↔◌, IsTrue, All
 use crate::problem::{Cert, Problem, Row};
 use crate::{Frac, List};
 
-/// States that a checked sum is the sum in lowest terms, exactly where the numbers that it forms are in
-/// range.
+/// States that a checked sum is the sum in lowest terms, exactly where the numbers that it forms are
+/// in range.
 pub fn sums_are_exact()
     ensures { (f g : Fraction) → IsFraction f → IsFraction g
         → IsExact (checked_sum f g) (SumFits f g) (fraction_sum f g) }
@@ -84,8 +84,8 @@ pub fn a_text_writes_one_pair()
         → Writes bytes n d → Writes bytes m e → (n ≡ m) × (d ≡ e) }
 {}
 
-/// States what the type of fractions keeps, of each of a list: a positive denominator, and lowest terms.
-/// It only reads them, since what a type keeps is told where it is read.
+/// States what the type of fractions keeps, of each of a list: a positive denominator, and lowest
+/// terms. It only reads them, since what a type keeps is told where it is read.
 pub fn are_fractions(fractions: &[Frac])
     ensures positive { AreFractions fractions.now }
     ensures lowest { All IsReduced fractions.now }

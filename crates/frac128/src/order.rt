@@ -1,4 +1,5 @@
-//! The order of fractions: by products of words where all numbers are such, else by Euclid's steps, which form no product.
+//! The order of fractions: by products of words where all numbers are such, else by Euclid's steps,
+//! which form no product.
 
 ghost use Rattle.frac128.specs.Range.{IsInRange};
 ghost use Rattle.std.specs.Ordering.{int_cmp};
@@ -7,8 +8,8 @@ ghost use Rattle.std.specs.Prelude.{◌≡◌, pos, ◌*ℤ◌, ◌<ℤ◌};
 use crate::number::{Number, product_of_words};
 use std::cmp::Ordering;
 
-/// How `a / b` compares with `c / d`, for denominators of at least 1 and numbers within -(2^127 - 1) to
-/// 2^127 - 1.
+/// How `a / b` compares with `c / d`, for denominators of at least 1 and numbers within -(2^127 - 1)
+/// to 2^127 - 1.
 pub fn compare(a: i128, b: i128, c: i128, d: i128) -> Ordering
     requires positive { (pos 0 <ℤ b) × (pos 0 <ℤ d) }
     requires left_in_range { IsInRange a × IsInRange b }
@@ -36,7 +37,8 @@ pub fn compare_numbers(a: Number, b: Number, c: Number, d: Number) -> Ordering
     compare_by_steps(a, b, c, d)
 }
 
-// The same by Euclid's steps. Where the whole parts agree, r / b and s / d are left, which compare as d / s and b / r do.
+// The same by Euclid's steps. Where the whole parts agree, r / b and s / d are left, which compare as
+// d / s and b / r do.
 fn compare_by_steps(a: Number, b: Number, c: Number, d: Number) -> Ordering
     requires { (pos 0 <ℤ b) × (pos 0 <ℤ d) }
     ensures { result ≡ int_cmp (a *ℤ d) (c *ℤ b) }

@@ -20,8 +20,8 @@ pub struct Row {
     pub bound: i128,
 }
 
-/// The least `cost * x` over the points `x` that meet each row, with a number of at least 0 for each
-/// variable. No cost is below 0, and each number's absolute value is below 2^127.
+/// The least `cost * x` over the points `x` that meet each row, with a number of at least 0 for
+/// each variable. No cost is below 0, and each number's absolute value is below 2^127.
 #[derive(Debug, Drop)]
 pub struct Problem {
     vars: usize,
@@ -77,10 +77,11 @@ impl Problem {
         Problem { vars, cost, rows }
     }
 
-    /// The problem of these data, where they are one: one cost for each variable, none below 0, rows over
-    /// the same variables, and no number -2^127. It takes no memory.
+    /// The problem of these data, where they are one: one cost for each variable, none below 0, rows
+    /// over the same variables, and no number -2^127. It takes no memory.
     pub fn checked(vars: usize, cost: List<i128>, rows: List<Row>) -> Option<Problem>
-        ensures { SomeIff result (IsProblem (problem_of vars cost rows)) (problem_of vars cost rows) }
+        ensures { SomeIff result (IsProblem (problem_of vars cost rows))
+            (problem_of vars cost rows) }
     {
         let costs = cost.as_slice();
         if costs.len() == vars
@@ -148,8 +149,8 @@ pub fn least_is_unique(problem: &Problem)
         → IsLeast problem.now x n → IsLeast problem.now y m → SameFractions (over x n) (over y m) }
 {}
 
-/// States that a point's numbers alone decide whether it meets the problem and whether it is the least,
-/// and not how they are written.
+/// States that a point's numbers alone decide whether it meets the problem and whether it is the
+/// least, and not how they are written.
 pub fn writing_does_not_count(problem: &Problem)
     ensures feasible { (x : Items ℤ) (n : ℤ) (y : Items ℤ) (m : ℤ)
         → pos 0 <ℤ m → SameFractions (over x n) (over y m)

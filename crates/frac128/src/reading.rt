@@ -12,7 +12,7 @@ use crate::frac::Frac;
 /// Why bytes are read as no fraction.
 #[derive(Clone, Copy, Debug, PartialEq, Eq)]
 pub enum FracFault {
-    /// They are not an optional `-` and digits, with or without a `/` and digits of a number other than 0.
+    /// They are not an optional `-` and digits, alone or with a `/` and digits of a number other than 0.
     BadNumber,
     /// They are, and one of the two numbers is beyond 2^127 - 1.
     TooWide,

@@ -39,7 +39,11 @@ IsApart {A} (x ∷ xs) = ((z : A) → IsIn z xs → x ≢ z) × IsApart xs
 IsApart-from_AllPairs : {A : Type 0} (xs : List A) → AllPairs (λ x y. x ≢ y) xs → IsApart xs
 unfolding IsIn IsApart
 IsApart-from_AllPairs [] h = tt
-IsApart-from_AllPairs (x ∷ xs) h = (λ z m e. let r = Contains-from_IsIn z xs m in h 0 (suc r.0) z (omega arith) (omega (arith, r.1)) (e ∙ sym r.2), IsApart-from_AllPairs xs (AllPairs-tail (λ x y. x ≢ y) x xs h))
+IsApart-from_AllPairs (x ∷ xs) h = (
+  λ z m e. let r = Contains-from_IsIn z xs m in h 0 (suc r.0) z (omega arith) (omega (arith, r.1)) (e ∙ sym r.2),
+  IsApart-from_AllPairs xs
+      (AllPairs-tail (λ x y. x ≢ y) x xs h),
+)
 
 -- the list without one place where x stands: all else is still in it
 without : {A : Type 0} (x : A) (ys : List A) → IsIn x ys → (zs : List A) × (length ys ≡ suc (length zs)) × ((z : A) → IsIn z ys → x ≢ z → IsIn z zs)
@@ -60,7 +64,9 @@ apart_at_most (x ∷ xs) ys a h =
 -- distinct members of a list are at most as many as it has
 pub distinct_at_most : {A : Type 0} (xs ys : List A) → AllPairs (λ x y. x ≢ y) xs → All (Contains ys) xs → length xs ≤ length ys
 unfolding IsIn IsApart
-distinct_at_most xs ys a h = apart_at_most xs ys (IsApart-from_AllPairs xs a) (λ z m. let r = Contains-from_IsIn z xs m in let c = subst (Contains ys) r.2 (h r.0 z r.1) in IsIn-from_Contains z ys c.0 c.1 c.2)
+distinct_at_most xs ys a h =
+    apart_at_most xs ys (IsApart-from_AllPairs xs a)
+    (λ z m. let r = Contains-from_IsIn z xs m in let c = subst (Contains ys) r.2 (h r.0 z r.1) in IsIn-from_Contains z ys c.0 c.1 c.2)
 
 -- ---- rising lists
 
@@ -79,13 +85,23 @@ Rises-above a b n (x ∷ xs) l h = All-cons (λ x. b ≤ x) x xs (omega (arith, 
 Rises-pairs : (a n : ℕ) (xs : List ℕ) → Rises a n xs → AllPairs (λ x y. x < y) xs × All (λ x. x < n) xs
 unfolding Rises
 Rises-pairs a n [] h = (λ i j d p q. absurd (omega arith), All-nil (λ x. x < n))
-Rises-pairs a n (x ∷ xs) h = let r = Rises-pairs (suc x) n xs h.2 in (AllPairs-cons (λ x y. x < y) x xs (Rises-above (suc x) (suc x) n xs (omega arith) h.2) r.0, All-cons (λ x. x < n) x xs h.1 r.1)
+Rises-pairs a n (x ∷ xs) h =
+    let r = Rises-pairs (suc x) n xs h.2 in (
+      AllPairs-cons (λ x y. x < y) x xs (Rises-above (suc x) (suc x) n xs (omega arith) h.2) r.0,
+      All-cons
+          (λ x. x < n) x xs h.1 r.1,
+    )
 
 -- from the same by places
 Rises-from_pairs : (a n : ℕ) (xs : List ℕ) → All (λ x. a ≤ x) xs → AllPairs (λ x y. x < y) xs → All (λ x. x < n) xs → Rises a n xs
 unfolding Rises
 Rises-from_pairs a n [] l p b = tt
-Rises-from_pairs a n (x ∷ xs) l p b = (All-head (λ x. a ≤ x) x xs l, All-head (λ x. x < n) x xs b, Rises-from_pairs (suc x) n xs (AllPairs-head (λ x y. x < y) x xs p) (AllPairs-tail (λ x y. x < y) x xs p) (All-tail (λ x. x < n) x xs b))
+Rises-from_pairs a n (x ∷ xs) l p b = (
+  All-head (λ x. a ≤ x) x xs l,
+  All-head (λ x. x < n) x xs b,
+  Rises-from_pairs (suc x) n xs (AllPairs-head (λ x y. x < y) x xs p)
+      (AllPairs-tail (λ x y. x < y) x xs p) (All-tail (λ x. x < n) x xs b),
+)
 
 -- ---- the choices
 
@@ -129,11 +145,18 @@ unfolding IsIn Rises
 choices_from-member zero a m [] e h = inl refl
 choices_from-member zero a m (x ∷ xs) e h = absurd (omega (arith, h.0, h.1))
 choices_from-member (suc n) a m [] e h = inl refl
-choices_from-member (suc n) a m (x ∷ xs) e h = step (eq-or-lt_of_le h.0) (λ r. choices_from-member n (suc a) m xs (omega arith) r) (λ r. choices_from-member n (suc a) m (x ∷ xs) (omega arith) r)
+choices_from-member (suc n) a m (x ∷ xs) e h =
+    step (eq-or-lt_of_le h.0) (λ r. choices_from-member n (suc a) m xs (omega arith) r) (λ r. choices_from-member n (suc a) m (x ∷ xs) (omega arith) r)
   where
-    step : (a ≡ x) ⊎ a < x → (Rises (suc a) m xs → IsIn xs (choices_from (suc a) n (length xs))) → (Rises (suc a) m (x ∷ xs) → IsIn (x ∷ xs) (choices_from (suc a) n (suc (length xs)))) → IsIn (x ∷ xs) (map (λ c. a ∷ c) (choices_from (suc a) n (length xs)) ++ choices_from (suc a) n (suc (length xs)))
-    step (inl e) first later = IsIn-append_left (x ∷ xs) (map (λ c. a ∷ c) (choices_from (suc a) n (length xs))) (choices_from (suc a) n (suc (length xs))) (subst (λ y. IsIn (y ∷ xs) (map (λ c. a ∷ c) (choices_from (suc a) n (length xs)))) e (IsIn-map_cons a xs (choices_from (suc a) n (length xs)) (first (subst (λ y. Rises (suc y) m xs) (sym e) h.2))))
-    step (inr l) first later = IsIn-append_right (x ∷ xs) (map (λ c. a ∷ c) (choices_from (suc a) n (length xs))) (choices_from (suc a) n (suc (length xs))) (later (l, h.1, h.2))
+    step : (a ≡ x) ⊎ a < x → (Rises (suc a) m xs → IsIn xs (choices_from (suc a) n (length xs)))
+        → (Rises (suc a) m (x ∷ xs) → IsIn (x ∷ xs) (choices_from (suc a) n (suc (length xs))))
+        → IsIn (x ∷ xs) (map (λ c. a ∷ c) (choices_from (suc a) n (length xs)) ++ choices_from (suc a) n (suc (length xs)))
+    step (inl e) first later =
+        IsIn-append_left (x ∷ xs) (map (λ c. a ∷ c) (choices_from (suc a) n (length xs))) (choices_from (suc a) n (suc (length xs)))
+        (subst (λ y. IsIn (y ∷ xs) (map (λ c. a ∷ c) (choices_from (suc a) n (length xs)))) e
+        (IsIn-map_cons a xs (choices_from (suc a) n (length xs)) (first (subst (λ y. Rises (suc y) m xs) (sym e) h.2))))
+    step (inr l) first later =
+        IsIn-append_right (x ∷ xs) (map (λ c. a ∷ c) (choices_from (suc a) n (length xs))) (choices_from (suc a) n (suc (length xs))) (later (l, h.1, h.2))
 
 -- a list that rises from b on rises from below b on
 Rises-weaker : (a b n : ℕ) (xs : List ℕ) → a ≤ b → Rises b n xs → Rises a n xs
@@ -147,9 +170,13 @@ unfolding IsIn Rises
 member-rises n a m zero xs e (inl i) = subst (λ ys. Rises a m ys × (length ys ≡ 0)) i (tt, refl)
 member-rises n a m zero xs e (inr i) = absurd i
 member-rises zero a m (suc k) xs e i = absurd i
-member-rises (suc n) a m (suc k) xs e i = step (IsIn-append xs (map (λ c. a ∷ c) (choices_from (suc a) n k)) (choices_from (suc a) n (suc k)) i) (λ ys j. member-rises n (suc a) m k ys (omega arith) j) (λ j. member-rises n (suc a) m (suc k) xs (omega arith) j)
+member-rises (suc n) a m (suc k) xs e i =
+    step (IsIn-append xs (map (λ c. a ∷ c) (choices_from (suc a) n k)) (choices_from (suc a) n (suc k)) i)
+    (λ ys j. member-rises n (suc a) m k ys (omega arith) j) (λ j. member-rises n (suc a) m (suc k) xs (omega arith) j)
   where
-    step : IsIn xs (map (λ c. a ∷ c) (choices_from (suc a) n k)) ⊎ IsIn xs (choices_from (suc a) n (suc k)) → ((ys : List ℕ) → IsIn ys (choices_from (suc a) n k) → Rises (suc a) m ys × (length ys ≡ k)) → (IsIn xs (choices_from (suc a) n (suc k)) → Rises (suc a) m xs × (length xs ≡ suc k)) → Rises a m xs × (length xs ≡ suc k)
+    step : IsIn xs (map (λ c. a ∷ c) (choices_from (suc a) n k)) ⊎ IsIn xs (choices_from (suc a) n (suc k))
+        → ((ys : List ℕ) → IsIn ys (choices_from (suc a) n k) → Rises (suc a) m ys × (length ys ≡ k))
+        → (IsIn xs (choices_from (suc a) n (suc k)) → Rises (suc a) m xs × (length xs ≡ suc k)) → Rises a m xs × (length xs ≡ suc k)
     step (inl j) first later =
         let r = IsIn-from_map_cons a xs (choices_from (suc a) n k) j in
         let s = first r.0 r.1 in
@@ -168,19 +195,25 @@ choices-members n k xs = (to, from)
         (λ i l. s.0 i (i + 1) 0 (omega arith) l, s.1, r.1)
 
     from : IsStrictlyIncreasing xs × All (λ x. x < n) xs × (length xs ≡ k) → Contains (choices n k) xs
-    from h = Contains-from_IsIn xs (choices n k) (subst (λ j. IsIn xs (choices n j)) h.2 (choices_from-member n 0 n xs (omega arith) (Rises-from_pairs 0 n xs (λ i d l. zero-le) (AllPairs-from_increasing xs h.0) h.1)))
+    from h =
+        Contains-from_IsIn xs (choices n k) (subst (λ j. IsIn xs (choices n j)) h.2
+        (choices_from-member n 0 n xs (omega arith) (Rises-from_pairs 0 n xs (λ i d l. zero-le) (AllPairs-from_increasing xs h.0) h.1)))
 
 -- as many choices from any first number on
 length-choices_from : (a n k : ℕ) → length (choices_from a n k) ≡ choose n k
 length-choices_from a n zero = refl
 length-choices_from a zero (suc k) = refl
-length-choices_from a (suc n) (suc k) = length-append (map (λ c. a ∷ c) (choices_from (suc a) n k)) (choices_from (suc a) n (suc k)) ∙ ap₂ (λ x y. x + y) (length-map (choices_from (suc a) n k) (λ c. a ∷ c) ∙ length-choices_from (suc a) n k) (length-choices_from (suc a) n (suc k))
+length-choices_from a (suc n) (suc k) =
+    length-append (map (λ c. a ∷ c) (choices_from (suc a) n k)) (choices_from (suc a) n (suc k))
+    ∙ ap₂ (λ x y. x + y) (length-map (choices_from (suc a) n k) (λ c. a ∷ c) ∙ length-choices_from (suc a) n k) (length-choices_from (suc a) n (suc k))
 
 -- there are as many choices as `choose` says
 pub length-choices : (n k : ℕ) → length (choices n k) ≡ choose n k
 length-choices n k = length-choices_from 0 n k
 
 -- different rising lists of k numbers below n are at most as many as there are choices
-pub distinct_choices_at_most : (n k : ℕ) (sets : List (List ℕ)) → AllPairs (λ x y. x ≢ y) sets → All (λ s. IsStrictlyIncreasing s × All (λ x. x < n) s × (length s ≡ k)) sets → length sets ≤ choose n k
+pub distinct_choices_at_most : (n k : ℕ) (sets : List (List ℕ)) → AllPairs (λ x y. x ≢ y) sets
+    → All (λ s. IsStrictlyIncreasing s × All (λ x. x < n) s × (length s ≡ k)) sets → length sets ≤ choose n k
 distinct_choices_at_most n k sets apart each =
-    subst (λ m. length sets ≤ m) (length-choices n k) (distinct_at_most sets (choices n k) apart (λ i d l. (choices-members n k (get_or sets i d)).1 (each i d l)))
+    subst (λ m. length sets ≤ m) (length-choices n k)
+    (distinct_at_most sets (choices n k) apart (λ i d l. (choices-members n k (get_or sets i d)).1 (each i d l)))

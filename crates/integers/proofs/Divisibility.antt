@@ -43,14 +43,20 @@ positive_divisor a (negsuc n) p h s = absurd s.le
 pub same_parts : (a b c d : ℤ) → IsLowest a b → IsLowest c d → pos 0 <ℤ b → pos 0 <ℤ d → a *ℤ d ≡ c *ℤ b → (a ≡ c) × (b ≡ d)
 same_parts a b c d low low' pb pd e =
     let sizes : unsigned_abs a * unsigned_abs d ≡ unsigned_abs c * unsigned_abs b = sym (unsigned_abs-mul a d) ∙ ap unsigned_abs e ∙ unsigned_abs-mul c b in
-    let one_way : unsigned_abs b ∣ unsigned_abs d = dvd_of_coprime (unsigned_abs a) (unsigned_abs b) (unsigned_abs d) low (subst (λ n. unsigned_abs b ∣ n) (sym sizes) (dvd-mul_left (unsigned_abs b) (unsigned_abs c))) in
-    let other_way : unsigned_abs d ∣ unsigned_abs b = dvd_of_coprime (unsigned_abs c) (unsigned_abs d) (unsigned_abs b) low' (subst (λ n. unsigned_abs d ∣ n) sizes (dvd-mul_left (unsigned_abs d) (unsigned_abs a))) in
-    let dens : b ≡ d = sym (pos-unsigned_abs b (le_of_lt (pos 0) b pb)) ∙ ap pos (dvd_antisymm one_way other_way) ∙ pos-unsigned_abs d (le_of_lt (pos 0) d pd) in
+    let one_way : unsigned_abs b ∣ unsigned_abs d =
+    dvd_of_coprime (unsigned_abs a) (unsigned_abs b) (unsigned_abs d) low
+    (subst (λ n. unsigned_abs b ∣ n) (sym sizes) (dvd-mul_left (unsigned_abs b) (unsigned_abs c))) in
+    let other_way : unsigned_abs d ∣ unsigned_abs b =
+    dvd_of_coprime (unsigned_abs c) (unsigned_abs d) (unsigned_abs b) low'
+    (subst (λ n. unsigned_abs d ∣ n) sizes (dvd-mul_left (unsigned_abs d) (unsigned_abs a))) in
+    let dens : b ≡ d =
+    sym (pos-unsigned_abs b (le_of_lt (pos 0) b pb)) ∙ ap pos (dvd_antisymm one_way other_way) ∙ pos-unsigned_abs d (le_of_lt (pos 0) d pd) in
     (cancel_eq a c b pb (ap (λ z. a *ℤ z) dens ∙ e), dens)
 
 -- a numerator and a denominator divided by their greatest common divisor are in lowest terms
 pub IsLowest-divided : (a b : ℤ) (g : ℕ) → 0 < g → IsGcdOf (a *ℤ pos g) (b *ℤ pos g) g → IsLowest a b
-IsLowest-divided a b g p h = AreCoprime-divided (unsigned_abs a) (unsigned_abs b) g p (subst₂ (λ m n. IsGcd m n g) (unsigned_abs-mul a (pos g)) (unsigned_abs-mul b (pos g)) h)
+IsLowest-divided a b g p h =
+    AreCoprime-divided (unsigned_abs a) (unsigned_abs b) g p (subst₂ (λ m n. IsGcd m n g) (unsigned_abs-mul a (pos g)) (unsigned_abs-mul b (pos g)) h)
 
 -- a whole number over 1 is in lowest terms
 pub IsLowest-whole : (a : ℤ) → IsLowest a (pos 1)
@@ -68,12 +74,14 @@ DividesAll-one xs k d h = one-dvd (unsigned_abs (get_or xs k d))
 
 -- a divisor of one number more
 pub DividesAll-cons : (d : ℕ) (x : ℤ) (xs : List ℤ) → DividesAll d (x ∷ xs) ↔ (d ∣ unsigned_abs x) × DividesAll d xs
-DividesAll-cons d x xs = (λ h. (All-head (λ x. d ∣ unsigned_abs x) x xs h, All-tail (λ x. d ∣ unsigned_abs x) x xs h), λ h. All-cons (λ x. d ∣ unsigned_abs x) x xs h.0 h.1)
+DividesAll-cons d x xs =
+    (λ h. (All-head (λ x. d ∣ unsigned_abs x) x xs h, All-tail (λ x. d ∣ unsigned_abs x) x xs h), λ h. All-cons (λ x. d ∣ unsigned_abs x) x xs h.0 h.1)
 
 -- a divisor of a divisor
 pub DividesAll-trans : (d e : ℕ) (xs : List ℤ) → d ∣ e → DividesAll e xs → DividesAll d xs
 DividesAll-trans d e [] p h = DividesAll-nil d
-DividesAll-trans d e (x ∷ xs) p h = (DividesAll-cons d x xs).1 (dvd_trans d p ((DividesAll-cons e x xs).0 h).0, DividesAll-trans d e xs p ((DividesAll-cons e x xs).0 h).1)
+DividesAll-trans d e (x ∷ xs) p h =
+    (DividesAll-cons d x xs).1 (dvd_trans d p ((DividesAll-cons e x xs).0 h).0, DividesAll-trans d e xs p ((DividesAll-cons e x xs).0 h).1)
 
 -- all multiples of k are divided by what a divisor takes k times, and the converse
 pub DividesAll-scale : (d k : ℕ) (xs : List ℤ) → 0 < k → DividesAll d xs ↔ DividesAll (d * k) (scale (pos k) xs)
@@ -84,7 +92,9 @@ DividesAll-scale d k xs p = (to xs, from xs)
 
     to : (xs : List ℤ) → DividesAll d xs → DividesAll (d * k) (scale (pos k) xs)
     to [] h = DividesAll-nil (d * k)
-    to (x ∷ xs) h = (DividesAll-cons (d * k) (pos k *ℤ x) (scale (pos k) xs)).1 (subst (λ n. d * k ∣ n) (sym (size x)) (mul-dvd-mul_right d ((DividesAll-cons d x xs).0 h).0 k), to xs ((DividesAll-cons d x xs).0 h).1)
+    to (x ∷ xs) h =
+        (DividesAll-cons (d * k) (pos k *ℤ x) (scale (pos k) xs)).1
+        (subst (λ n. d * k ∣ n) (sym (size x)) (mul-dvd-mul_right d ((DividesAll-cons d x xs).0 h).0 k), to xs ((DividesAll-cons d x xs).0 h).1)
 
     from : (xs : List ℤ) → DividesAll (d * k) (scale (pos k) xs) → DividesAll d xs
     from [] h = DividesAll-nil d
@@ -119,8 +129,10 @@ same_from_IsGcdOfAll xs g h p q = dvd_antisymm (q.1 g p.0) (p.1 h q.0)
 
 -- numbers divided by their greatest common divisor have 1 as theirs, and the converse
 pub IsGcdOfAll-divided : (g : ℕ) (xs : List ℤ) → 0 < g → IsGcdOfAll (scale (pos g) xs) g ↔ IsGcdOfAll xs 1
-IsGcdOfAll-divided g xs p =
-    (λ h. (DividesAll-one xs, λ d q. dvd_of_mul-dvd-mul_right d p (subst (λ n. d * g ∣ n) (sym (one-mul g)) (h.1 (d * g) ((DividesAll-scale d g xs p).0 q)))), λ h. back (IsGcdOfAll-exists (scale (pos g) xs)) h)
+IsGcdOfAll-divided g xs p = (
+  λ h. (DividesAll-one xs, λ d q. dvd_of_mul-dvd-mul_right d p (subst (λ n. d * g ∣ n) (sym (one-mul g)) (h.1 (d * g) ((DividesAll-scale d g xs p).0 q)))),
+  λ h. back (IsGcdOfAll-exists (scale (pos g) xs)) h,
+)
   where
     back : (f : ℕ) × IsGcdOfAll (scale (pos g) xs) f → IsGcdOfAll xs 1 → IsGcdOfAll (scale (pos g) xs) g
     back r h =
@@ -182,7 +194,9 @@ quotient_positive b z pb p h = (divided_pos b (int_div b z) z p (quotient_whole 
 
 -- the quotient divides too
 pub quotient_divides : (b z : ℤ) → pos 0 <ℤ z → unsigned_abs z ∣ unsigned_abs b → unsigned_abs (int_div b z) ∣ unsigned_abs b
-quotient_divides b z p h = subst (λ n. unsigned_abs (int_div b z) ∣ n) (sym (unsigned_abs-mul (int_div b z) z) ∙ ap unsigned_abs (sym (quotient_whole b z p h))) (dvd-mul_right (unsigned_abs (int_div b z)) (unsigned_abs z))
+quotient_divides b z p h =
+    subst (λ n. unsigned_abs (int_div b z) ∣ n) (sym (unsigned_abs-mul (int_div b z) z) ∙ ap unsigned_abs (sym (quotient_whole b z p h)))
+    (dvd-mul_right (unsigned_abs (int_div b z)) (unsigned_abs z))
 
 -- divided by 1 a number is itself
 pub int_div-one : (x : ℤ) → int_div x (pos 1) ≡ x
@@ -194,7 +208,8 @@ quotients-one [] = refl
 quotients-one (x ∷ xs) = ap₂ (λ a b. a ∷ b) (int_div-one x) (quotients-one xs)
 
 -- each fraction can be written in lowest terms, with the parts divided by their greatest common divisor
-pub lowest_terms : (a b : ℤ) (g : ℕ) → pos 0 <ℤ b → IsGcdOf a b g → IsLowest (int_div a (pos g)) (int_div b (pos g)) × (pos 0 <ℤ int_div b (pos g)) × (a *ℤ int_div b (pos g) ≡ int_div a (pos g) *ℤ b)
+pub lowest_terms : (a b : ℤ) (g : ℕ) → pos 0 <ℤ b → IsGcdOf a b g → IsLowest (int_div a (pos g)) (int_div b (pos g)) × (pos 0 <ℤ int_div b (pos g))
+    × (a *ℤ int_div b (pos g) ≡ int_div a (pos g) *ℤ b)
 lowest_terms a b g p h =
     let c : ℤ = int_div a (pos g) in
     let d : ℤ = int_div b (pos g) in
@@ -202,8 +217,12 @@ lowest_terms a b g p h =
     let some : 0 < g = pos_of_dvd_of_pos h.1 size in
     let positive : pos 0 <ℤ pos g = omega (arith, lin) in
     let a_is : a ≡ c *ℤ pos g = sym (*ℤ_comm c (pos g) ∙ int_div-mul_cancel a g h.0) in
-    let b_is : b ≡ d *ℤ pos g = sym (*ℤ_comm d (pos g) ∙ int_div-mul_cancel b g h.1) in
-    (IsLowest-divided c d g some (subst₂ (λ x y. IsGcdOf x y g) a_is b_is h), (divided_pos b d (pos g) positive b_is).0 p, divided_same a b c d (pos g) a_is b_is)
+    let b_is : b ≡ d *ℤ pos g = sym (*ℤ_comm d (pos g) ∙ int_div-mul_cancel b g h.1) in (
+      IsLowest-divided c d g some (subst₂ (λ x y. IsGcdOf x y g) a_is b_is h),
+      (divided_pos b d (pos g) positive b_is).0 p,
+      divided_same a b c d
+          (pos g) a_is b_is,
+    )
 
 -- ---- the greatest common divisor of two numbers, as a number
 
@@ -224,18 +243,24 @@ gcd_of_pos a b p = positive_divisor b (gcd_of a b) p (IsGcdOf-gcd_of a b).1 (gcd
 -- the greatest common divisor that code finds is this one
 pub gcd_of-is : (a b z : ℤ) → IsGcdOf a b (unsigned_abs z) → pos 0 ≤ℤ z → z ≡ gcd_of a b
 unfolding gcd_of
-gcd_of-is a b z h s = sym (pos-unsigned_abs z s) ∙ ap pos (same_from_IsGcd (unsigned_abs a) (unsigned_abs b) (unsigned_abs z) (common_divisor (unsigned_abs a) (unsigned_abs b)) h (IsGcd-common_divisor (unsigned_abs a) (unsigned_abs b)))
+gcd_of-is a b z h s =
+    sym (pos-unsigned_abs z s) ∙ ap pos (same_from_IsGcd (unsigned_abs a) (unsigned_abs b) (unsigned_abs z) (common_divisor (unsigned_abs a) (unsigned_abs b)) h
+    (IsGcd-common_divisor (unsigned_abs a) (unsigned_abs b)))
 
 -- ---- the greatest common divisor of a list, as a number
 
 -- a common divisor divides each dot product
 pub dvd-dot : (d : ℕ) (xs us : List ℤ) → DividesAll d xs → d ∣ unsigned_abs (dot xs us)
-dvd-dot d xs us h = subst (λ n. d ∣ n) (sym (unsigned_abs-mul (pos d) (dot (quotients xs (pos d)) us)) ∙ ap unsigned_abs (dot-quotients d xs us h)) (dvd-mul_right d (unsigned_abs (dot (quotients xs (pos d)) us)))
+dvd-dot d xs us h =
+    subst (λ n. d ∣ n) (sym (unsigned_abs-mul (pos d) (dot (quotients xs (pos d)) us)) ∙ ap unsigned_abs (dot-quotients d xs us h))
+    (dvd-mul_right d (unsigned_abs (dot (quotients xs (pos d)) us)))
 
 -- `divisor_of_all` is the greatest common divisor
 pub IsGcdOfAll-divisor_of_all : (xs : List ℤ) → IsGcdOfAll xs (divisor_of_all xs)
 IsGcdOfAll-divisor_of_all [] = IsGcdOfAll-nil
-IsGcdOfAll-divisor_of_all (x ∷ xs) = IsGcdOfAll-cons x xs (divisor_of_all xs) (divisor_of_all (x ∷ xs)) (IsGcdOfAll-divisor_of_all xs) (IsGcd-common_divisor (unsigned_abs x) (divisor_of_all xs))
+IsGcdOfAll-divisor_of_all (x ∷ xs) =
+    IsGcdOfAll-cons x xs (divisor_of_all xs) (divisor_of_all (x ∷ xs)) (IsGcdOfAll-divisor_of_all xs)
+    (IsGcd-common_divisor (unsigned_abs x) (divisor_of_all xs))
 
 -- the greatest common divisor that code finds
 pub divisor-is : (xs : List ℤ) (z : ℤ) → IsGcdOfAll xs (unsigned_abs z) → pos 0 ≤ℤ z → z ≡ pos (divisor_of_all xs)
@@ -249,8 +274,11 @@ divisor_of_first (x ∷ xs) z p h s = positive_divisor x z p ((DividesAll-cons (
 -- ---- for loops
 
 -- the divisors of what is left from the place i on
-pub DividesAll-drop_more : (d i : ℕ) (xs : List ℤ) → i < length xs → DividesAll d (drop i xs) ↔ (d ∣ unsigned_abs (get_or xs i (pos 0))) × DividesAll d (drop (i + 1) xs)
-DividesAll-drop_more d i xs h = subst (λ zs. DividesAll d zs ↔ (d ∣ unsigned_abs (get_or xs i (pos 0))) × DividesAll d (drop (i + 1) xs)) (sym is) (DividesAll-cons d (get_or xs i (pos 0)) (drop (i + 1) xs))
+pub DividesAll-drop_more : (d i : ℕ) (xs : List ℤ) → i < length xs → DividesAll d (drop i xs) ↔ (d ∣ unsigned_abs (get_or xs i (pos 0)))
+    × DividesAll d (drop (i + 1) xs)
+DividesAll-drop_more d i xs h =
+    subst (λ zs. DividesAll d zs ↔ (d ∣ unsigned_abs (get_or xs i (pos 0))) × DividesAll d (drop (i + 1) xs)) (sym is)
+    (DividesAll-cons d (get_or xs i (pos 0)) (drop (i + 1) xs))
   where
     is : drop i xs ≡ get_or xs i (pos 0) ∷ drop (i + 1) xs
     is = rw (add-one, drop-cons xs i (pos 0))

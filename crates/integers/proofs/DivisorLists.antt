@@ -12,7 +12,8 @@ pub record HasSoFar (xs : List ℤ) (i g : ℕ) : Type 0 where
   pub divisors : (d : ℕ) → DividesAll d xs ↔ (d ∣ g) × DividesAll d (drop i xs)
 
 -- one number more
-pub HasSoFar-next : (xs : List ℤ) (i : ℕ) (x g h : ℤ) → i < length xs → x ≡ get_or xs i x → IsGcd (unsigned_abs g) (unsigned_abs x) (unsigned_abs h) → HasSoFar xs i (unsigned_abs g) → HasSoFar xs (i + 1) (unsigned_abs h)
+pub HasSoFar-next : (xs : List ℤ) (i : ℕ) (x g h : ℤ) → i < length xs → x ≡ get_or xs i x → IsGcd (unsigned_abs g) (unsigned_abs x) (unsigned_abs h)
+    → HasSoFar xs i (unsigned_abs g) → HasSoFar xs (i + 1) (unsigned_abs h)
 HasSoFar-next xs i x g h below read gcd has = record { divisors = λ d. (to d, from d) }
   where
     is : x ≡ get_or xs i (pos 0)
@@ -25,11 +26,17 @@ HasSoFar-next xs i x g h below read gcd has = record { divisors = λ d. (to d, f
         (gcd.2 d both.0 (subst (λ z. d ∣ unsigned_abs z) (sym is) more.0), more.1)
 
     from : (d : ℕ) → (d ∣ unsigned_abs h) × DividesAll d (drop (i + 1) xs) → DividesAll d xs
-    from d p = (has.divisors d).1 (dvd_trans d p.0 gcd.0, (DividesAll-drop_more d i xs below).1 (subst (λ z. d ∣ unsigned_abs z) is (dvd_trans d p.0 gcd.1), p.1))
+    from d p =
+        (has.divisors d).1 (dvd_trans d p.0 gcd.0, (DividesAll-drop_more d i xs below).1 (subst (λ z. d ∣ unsigned_abs z) is (dvd_trans d p.0 gcd.1), p.1))
 
 -- at the list's end the divisor is that of all
 pub HasSoFar-all : (xs : List ℤ) (i g : ℕ) → length xs ≤ i → HasSoFar xs i g → IsGcdOfAll xs g
-HasSoFar-all xs i g end has = (IsGcdOfAll-divisors xs g).1 (λ d. (λ all. ((has.divisors d).0 all).0, λ p. (has.divisors d).1 (p, subst (DividesAll d) (sym (drop_all i xs end)) (DividesAll-nil d))))
+HasSoFar-all xs i g end has =
+    (IsGcdOfAll-divisors xs g).1 (λ d. (
+      λ all. ((has.divisors d).0 all).0,
+      λ p. (has.divisors d).1
+          (p, subst (DividesAll d) (sym (drop_all i xs end)) (DividesAll-nil d)),
+    ))
 
 -- the divisor 1 is final
 pub HasSoFar-one : (xs : List ℤ) (i g : ℕ) → g ≡ 1 → HasSoFar xs i g → IsGcdOfAll xs g

@@ -1,6 +1,6 @@
 -- The order of fractions: chains of "at most", "below" and "the same number", and each by the sign of a difference.
 use Rattle.std.proofs.lemmas.Int.{by_lt_z}
-use Rattle.std.proofs.Common.{◌≡◌, ◌⊎◌, inl, inr, ◌↔◌, [], ◌∷◌, ℤ, pos, ◌*ℤ◌, ◌-ℤ◌, ◌≤ℤ◌, ◌<ℤ◌, refl, sym, subst, ◌∙◌, arith}
+use Rattle.std.proofs.Common.{◌≡◌, ◌⊎◌, inl, inr, ◌↔◌, ℤ, pos, ◌*ℤ◌, ◌≤ℤ◌, ◌<ℤ◌, sym, subst, ◌∙◌, arith}
 use Rattle.integers.specs.Fraction.{Fraction, IsFraction, SameFraction, FractionLess, FractionAtMost, fraction_of, fraction_difference}
 use Rattle.integers.proofs.Laws.{lin, *ℤ-one}
 use Rattle.integers.proofs.Order.{le_of_lt, le_antisymm, fraction_le_le, fraction_le_eq, fraction_eq_le, fraction_lt_le, fraction_le_lt}

@@ -60,12 +60,17 @@ SameFractions-sym (f ∷ fs) [] h = absurd h
 SameFractions-sym (f ∷ fs) (g ∷ gs) h = (sym h.0, SameFractions-sym fs gs h.1)
 
 -- the same fractions, and the same again
-pub SameFractions-trans : (fs gs hs : List Fraction) → AreFractions fs → AreFractions gs → AreFractions hs → SameFractions fs gs → SameFractions gs hs → SameFractions fs hs
+pub SameFractions-trans : (fs gs hs : List Fraction) → AreFractions fs → AreFractions gs → AreFractions hs → SameFractions fs gs → SameFractions gs hs
+    → SameFractions fs hs
 SameFractions-trans [] [] hs pf pg ph s t = t
 SameFractions-trans [] (g ∷ gs) hs pf pg ph s t = absurd s
 SameFractions-trans (f ∷ fs) [] hs pf pg ph s t = absurd s
 SameFractions-trans (f ∷ fs) (g ∷ gs) [] pf pg ph s t = absurd t
-SameFractions-trans (f ∷ fs) (g ∷ gs) (h ∷ hs) pf pg ph s t = (SameFraction-trans f g h (All-head IsFraction f fs pf) (All-head IsFraction g gs pg) (All-head IsFraction h hs ph) s.0 t.0, SameFractions-trans fs gs hs (All-tail IsFraction f fs pf) (All-tail IsFraction g gs pg) (All-tail IsFraction h hs ph) s.1 t.1)
+SameFractions-trans (f ∷ fs) (g ∷ gs) (h ∷ hs) pf pg ph s t = (
+  SameFraction-trans f g h (All-head IsFraction f fs pf) (All-head IsFraction g gs pg) (All-head IsFraction h hs ph) s.0 t.0,
+  SameFractions-trans fs gs hs
+      (All-tail IsFraction f fs pf) (All-tail IsFraction g gs pg) (All-tail IsFraction h hs ph) s.1 t.1,
+)
 
 -- the same fractions are as many
 pub SameFractions-length : (fs gs : List Fraction) → SameFractions fs gs → length fs ≡ length gs

@@ -17,8 +17,12 @@ mul-mod-mul a b k pb pk =
 
 -- a common factor 0
 IsGcd-zeros : (a b g k : ℕ) → k ≡ 0 → IsGcd (a * k) (b * k) (g * k)
-IsGcd-zeros a b g k e =
-    (subst (λ n. g * k ∣ n) (sym (zero_at a)) (dvd-zero (g * k)), subst (λ n. g * k ∣ n) (sym (zero_at b)) (dvd-zero (g * k)), λ d p q. subst (λ n. d ∣ n) (sym (zero_at g)) (dvd-zero d))
+IsGcd-zeros a b g k e = (
+  subst (λ n. g * k ∣ n) (sym (zero_at a)) (dvd-zero (g * k)),
+  subst (λ n. g * k ∣ n) (sym (zero_at b)) (dvd-zero (g * k)),
+  λ d p q. subst (λ n. d ∣ n)
+      (sym (zero_at g)) (dvd-zero d),
+)
   where
     zero_at : (n : ℕ) → n * k ≡ 0
     zero_at n = ap (λ m. n * m) e ∙ omega arith
@@ -35,7 +39,8 @@ euclid (suc fuel) a b h = step (eq-zero-or-pos b) (λ p. euclid fuel b (a % b) (
         more (inl e) = IsGcd-zeros a b g k e
         more (inr pk) = IsGcd-from_mod (a * k) (b * k) (g * k) (subst (λ n. IsGcd (b * k) n (g * k)) (sym (mul-mod-mul a b k p pk)) q)
 
-    step : (b ≡ 0) ⊎ 0 < b → (0 < b → (g : ℕ) × IsGcd b (a % b) g × ((k : ℕ) → IsGcd (b * k) (a % b * k) (g * k))) → (g : ℕ) × IsGcd a b g × ((k : ℕ) → IsGcd (a * k) (b * k) (g * k))
+    step : (b ≡ 0) ⊎ 0 < b → (0 < b → (g : ℕ) × IsGcd b (a % b) g × ((k : ℕ) → IsGcd (b * k) (a % b * k) (g * k))) → (g : ℕ) × IsGcd a b g
+        × ((k : ℕ) → IsGcd (a * k) (b * k) (g * k))
     step (inl e) rec = (a, IsGcd-from_zero a b e, λ k. IsGcd-from_zero (a * k) (b * k) (ap (λ n. n * k) e ∙ omega arith))
     step (inr p) rec = let r = rec p in (r.0, IsGcd-from_mod a b r.0 r.1, λ k. scaled r.0 k p (r.2 k))
 
@@ -67,7 +72,8 @@ dvd_of_coprime a b d h p =
 -- divided by their greatest common divisor two numbers are coprime
 pub AreCoprime-divided : (a b g : ℕ) → 0 < g → IsGcd (a * g) (b * g) g → AreCoprime a b
 AreCoprime-divided a b g p h d u v =
-    dvd_antisymm (dvd_of_mul-dvd-mul_right d p (subst (λ n. d * g ∣ n) (sym (one-mul g)) (h.2 (d * g) (mul-dvd-mul_right d u g) (mul-dvd-mul_right d v g)))) (subst (λ n. 1 ∣ n) (one-mul d) (dvd-mul_right 1 d))
+    dvd_antisymm (dvd_of_mul-dvd-mul_right d p (subst (λ n. d * g ∣ n) (sym (one-mul g)) (h.2 (d * g) (mul-dvd-mul_right d u g) (mul-dvd-mul_right d v g))))
+    (subst (λ n. 1 ∣ n) (one-mul d) (dvd-mul_right 1 d))
 
 -- a test of the greatest common divisor is one of being coprime
 pub AreCoprime-test : (a b g : ℕ) → IsGcd a b g → IsTrue (nat_eq g 1) ↔ AreCoprime a b
@@ -81,7 +87,8 @@ IsGcd-divisor_within : (steps a b : ℕ) → b < steps → IsGcd a b (divisor_wi
 IsGcd-divisor_within zero a b h = absurd (omega arith)
 IsGcd-divisor_within (suc steps) a b h = step (nat_eq b 0) refl (λ p. IsGcd-divisor_within steps b (a % b) (let less = mod-lt a p in omega arith))
   where
-    step : (t : Bool) → nat_eq b 0 ≡ t → (0 < b → IsGcd b (a % b) (divisor_within steps b (a % b))) → IsGcd a b (elim t [ true ↦ a | false ↦ divisor_within steps b (a % b) ])
+    step : (t : Bool) → nat_eq b 0 ≡ t → (0 < b → IsGcd b (a % b) (divisor_within steps b (a % b)))
+        → IsGcd a b (elim t [ true ↦ a | false ↦ divisor_within steps b (a % b) ])
     step true e rest = IsGcd-from_zero a b (eqb-true b 0 e)
     step false e rest = positive (eq-zero-or-pos b)
       where

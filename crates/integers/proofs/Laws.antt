@@ -18,7 +18,19 @@ pub *ℤ_assoc : (a b c : ℤ) → (a *ℤ b) *ℤ c ≡ a *ℤ (b *ℤ c)
 *ℤ_assoc a b c =
     let ab = product_is a b in
     let bc = product_is b c in
-    omega (arith, ints, ap (λ n. up c * n) ab.0, ap (λ n. down c * n) ab.0, ap (λ n. up c * n) ab.1, ap (λ n. down c * n) ab.1, ap (λ n. up a * n) bc.0, ap (λ n. down a * n) bc.0, ap (λ n. up a * n) bc.1, ap (λ n. down a * n) bc.1)
+    omega (
+      arith,
+      ints,
+      ap (λ n. up c * n) ab.0,
+      ap (λ n. down c * n) ab.0,
+      ap (λ n. up c * n) ab.1,
+      ap (λ n. down c * n) ab.1,
+      ap (λ n. up a * n) bc.0,
+      ap
+          (λ n. down a * n) bc.0,
+      ap (λ n. up a * n) bc.1,
+      ap (λ n. down a * n) bc.1,
+    )
 
 -- the first two of three factors change places
 pub *ℤ_left_comm : (a b c : ℤ) → a *ℤ (b *ℤ c) ≡ b *ℤ (a *ℤ c)

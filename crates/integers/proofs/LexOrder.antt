@@ -27,7 +27,8 @@ LexLess-trans [] (g ∷ gs) [] pf pg ph s t = absurd t
 LexLess-trans [] (g ∷ gs) (h ∷ hs) pf pg ph s t = tt
 LexLess-trans (f ∷ fs) [] hs pf pg ph s t = absurd s
 LexLess-trans (f ∷ fs) (g ∷ gs) [] pf pg ph s t = absurd t
-LexLess-trans (f ∷ fs) (g ∷ gs) (h ∷ hs) pf pg ph s t = step s t (LexLess-trans fs gs hs (All-tail IsFraction f fs pf) (All-tail IsFraction g gs pg) (All-tail IsFraction h hs ph))
+LexLess-trans (f ∷ fs) (g ∷ gs) (h ∷ hs) pf pg ph s t =
+    step s t (LexLess-trans fs gs hs (All-tail IsFraction f fs pf) (All-tail IsFraction g gs pg) (All-tail IsFraction h hs ph))
   where
     f0 : IsFraction f
     f0 = All-head IsFraction f fs pf
@@ -38,7 +39,8 @@ LexLess-trans (f ∷ fs) (g ∷ gs) (h ∷ hs) pf pg ph s t = step s t (LexLess-
     h0 : IsFraction h
     h0 = All-head IsFraction h hs ph
 
-    step : FractionLess f g ⊎ SameFraction f g × LexLess fs gs → FractionLess g h ⊎ SameFraction g h × LexLess gs hs → (LexLess fs gs → LexLess gs hs → LexLess fs hs) → FractionLess f h ⊎ SameFraction f h × LexLess fs hs
+    step : FractionLess f g ⊎ SameFraction f g × LexLess fs gs → FractionLess g h ⊎ SameFraction g h × LexLess gs hs
+        → (LexLess fs gs → LexLess gs hs → LexLess fs hs) → FractionLess f h ⊎ SameFraction f h × LexLess fs hs
     step (inl a) (inl b) rest = inl (FractionLess-trans f g h f0 g0 h0 a b)
     step (inl a) (inr b) rest = inl (FractionLess-same_right f g h f0 g0 h0 a b.0)
     step (inr a) (inl b) rest = inl (FractionLess-same_left f g h f0 g0 h0 a.0 b)
@@ -55,7 +57,9 @@ LexLess-cases [] (g ∷ gs) = inl tt
 LexLess-cases (f ∷ fs) [] = inr (inr tt)
 LexLess-cases (f ∷ fs) (g ∷ gs) = step (fraction_cases f.num f.den g.num g.den) (LexLess-cases fs gs)
   where
-    step : FractionLess f g ⊎ SameFraction f g ⊎ FractionLess g f → LexLess fs gs ⊎ SameFractions fs gs ⊎ LexLess gs fs → (FractionLess f g ⊎ SameFraction f g × LexLess fs gs) ⊎ (SameFraction f g × SameFractions fs gs) ⊎ (FractionLess g f ⊎ SameFraction g f × LexLess gs fs)
+    step : FractionLess f g ⊎ SameFraction f g ⊎ FractionLess g f → LexLess fs gs ⊎ SameFractions fs gs ⊎ LexLess gs fs
+        → (FractionLess f g ⊎ SameFraction f g × LexLess fs gs) ⊎ (SameFraction f g × SameFractions fs gs)
+        ⊎ (FractionLess g f ⊎ SameFraction g f × LexLess gs fs)
     step (inl a) c = inl (inl a)
     step (inr (inl e)) (inl c) = inl (inr (e, c))
     step (inr (inl e)) (inr (inl c)) = inr (inl (e, c))
@@ -70,7 +74,8 @@ LexLess-same_left [] [] hs pf pg ph s t = t
 LexLess-same_left [] (g ∷ gs) hs pf pg ph s t = absurd s
 LexLess-same_left (f ∷ fs) [] hs pf pg ph s t = absurd s
 LexLess-same_left (f ∷ fs) (g ∷ gs) [] pf pg ph s t = absurd t
-LexLess-same_left (f ∷ fs) (g ∷ gs) (h ∷ hs) pf pg ph s t = step t (LexLess-same_left fs gs hs (All-tail IsFraction f fs pf) (All-tail IsFraction g gs pg) (All-tail IsFraction h hs ph) s.1)
+LexLess-same_left (f ∷ fs) (g ∷ gs) (h ∷ hs) pf pg ph s t =
+    step t (LexLess-same_left fs gs hs (All-tail IsFraction f fs pf) (All-tail IsFraction g gs pg) (All-tail IsFraction h hs ph) s.1)
   where
     f0 : IsFraction f
     f0 = All-head IsFraction f fs pf
@@ -92,7 +97,8 @@ LexLess-same_right [] (g ∷ gs) [] pf pg ph s t = absurd t
 LexLess-same_right [] (g ∷ gs) (h ∷ hs) pf pg ph s t = tt
 LexLess-same_right (f ∷ fs) [] hs pf pg ph s t = absurd s
 LexLess-same_right (f ∷ fs) (g ∷ gs) [] pf pg ph s t = absurd t
-LexLess-same_right (f ∷ fs) (g ∷ gs) (h ∷ hs) pf pg ph s t = step s (λ k. LexLess-same_right fs gs hs (All-tail IsFraction f fs pf) (All-tail IsFraction g gs pg) (All-tail IsFraction h hs ph) k t.1)
+LexLess-same_right (f ∷ fs) (g ∷ gs) (h ∷ hs) pf pg ph s t =
+    step s (λ k. LexLess-same_right fs gs hs (All-tail IsFraction f fs pf) (All-tail IsFraction g gs pg) (All-tail IsFraction h hs ph) k t.1)
   where
     f0 : IsFraction f
     f0 = All-head IsFraction f fs pf
@@ -108,7 +114,8 @@ LexLess-same_right (f ∷ fs) (g ∷ gs) (h ∷ hs) pf pg ph s t = step s (λ k.
     step (inr b) rest = inr (SameFraction-trans f g h f0 g0 h0 b.0 t.0, rest b.1)
 
 -- both lists may be written in another way
-pub LexLess-same : (fs fs' gs gs' : List Fraction) → AreFractions fs → AreFractions fs' → AreFractions gs → AreFractions gs' → SameFractions fs fs' → SameFractions gs gs' → LexLess fs gs ↔ LexLess fs' gs'
+pub LexLess-same : (fs fs' gs gs' : List Fraction) → AreFractions fs → AreFractions fs' → AreFractions gs → AreFractions gs' → SameFractions fs fs'
+    → SameFractions gs gs' → LexLess fs gs ↔ LexLess fs' gs'
 LexLess-same fs fs' gs gs' pf pf' pg pg' s t = (
   λ h. LexLess-same_left fs' fs gs' pf' pf pg' (SameFractions-sym fs fs' s) (LexLess-same_right fs gs gs' pf pg pg' h t),
   λ h. LexLess-same_left fs fs' gs pf pf' pg s (LexLess-same_right fs' gs' gs pf' pg' pg h (SameFractions-sym gs gs' t)),
@@ -151,13 +158,20 @@ SameFractions-differences fs gs l = (to fs gs, from fs gs l)
     to : (fs gs : List Fraction) → SameFractions fs gs → AreZero (differences fs gs)
     to [] gs h = All-nil (λ x. x ≡ pos 0)
     to (f ∷ fs) [] h = absurd h
-    to (f ∷ fs) (g ∷ gs) h = let e = h.0 in AreZero-cons (f.den *ℤ g.num -ℤ g.den *ℤ f.num) (differences fs gs) (omega (arith, lin, *ℤ_comm f.num g.den, *ℤ_comm g.num f.den)) (to fs gs h.1)
+    to (f ∷ fs) (g ∷ gs) h =
+        let e = h.0 in AreZero-cons (f.den *ℤ g.num -ℤ g.den *ℤ f.num) (differences fs gs)
+        (omega (arith, lin, *ℤ_comm f.num g.den, *ℤ_comm g.num f.den)) (to fs gs h.1)
 
     from : (fs gs : List Fraction) → length fs ≡ length gs → AreZero (differences fs gs) → SameFractions fs gs
     from [] [] l z = tt
     from [] (g ∷ gs) l z = absurd (omega arith)
     from (f ∷ fs) [] l z = absurd (omega arith)
-    from (f ∷ fs) (g ∷ gs) l z = let e = AreZero-head (f.den *ℤ g.num -ℤ g.den *ℤ f.num) (differences fs gs) z in (omega (arith, lin, *ℤ_comm f.num g.den, *ℤ_comm g.num f.den), from fs gs (omega arith) (AreZero-tail (f.den *ℤ g.num -ℤ g.den *ℤ f.num) (differences fs gs) z))
+    from (f ∷ fs) (g ∷ gs) l z =
+        let e = AreZero-head (f.den *ℤ g.num -ℤ g.den *ℤ f.num) (differences fs gs) z in (
+          omega (arith, lin, *ℤ_comm f.num g.den, *ℤ_comm g.num f.den),
+          from fs gs (omega arith)
+              (AreZero-tail (f.den *ℤ g.num -ℤ g.den *ℤ f.num) (differences fs gs) z),
+        )
 
 -- over one denominator each, the differences are a row step
 pub differences-over : (xs ys : List ℤ) (d e : ℤ) → length xs ≡ length ys → differences (over xs d) (over ys e) ≡ row_step d e ys xs
@@ -185,14 +199,21 @@ plus_multiple p q (f ∷ fs) (v ∷ vs) = record { num = q *ℤ f.num +ℤ p *�
 pub AreFractions-plus_multiple : (p q : ℤ) (fs : List Fraction) (vs : List ℤ) → pos 0 <ℤ q → AreFractions fs → AreFractions (plus_multiple p q fs vs)
 AreFractions-plus_multiple p q [] vs pq pf = pf
 AreFractions-plus_multiple p q (f ∷ fs) [] pq pf = pf
-AreFractions-plus_multiple p q (f ∷ fs) (v ∷ vs) pq pf = All-cons IsFraction (record { num = q *ℤ f.num +ℤ p *ℤ v; den = q *ℤ f.den }) (plus_multiple p q fs vs) (mul_pos q f.den pq (All-head IsFraction f fs pf)) (AreFractions-plus_multiple p q fs vs pq (All-tail IsFraction f fs pf))
+AreFractions-plus_multiple p q (f ∷ fs) (v ∷ vs) pq pf =
+    All-cons IsFraction (record { num = q *ℤ f.num +ℤ p *ℤ v; den = q *ℤ f.den }) (plus_multiple p q fs vs) (mul_pos q f.den pq (All-head IsFraction f fs pf))
+    (AreFractions-plus_multiple p q fs vs pq (All-tail IsFraction f fs pf))
 
 -- a positive multiple of a lexicographically positive list takes a list of fractions up
-pub LexLess-plus_multiple : (p q : ℤ) (fs : List Fraction) (vs : List ℤ) → pos 0 <ℤ p → pos 0 <ℤ q → AreFractions fs → length vs ≤ length fs → IsLexPositive vs → LexLess fs (plus_multiple p q fs vs)
+pub LexLess-plus_multiple : (p q : ℤ) (fs : List Fraction) (vs : List ℤ) → pos 0 <ℤ p → pos 0 <ℤ q → AreFractions fs → length vs ≤ length fs → IsLexPositive vs
+    → LexLess fs (plus_multiple p q fs vs)
 LexLess-plus_multiple p q fs [] pp pq pf l h = absurd h
 LexLess-plus_multiple p q [] (v ∷ vs) pp pq pf l h = absurd (omega arith)
 LexLess-plus_multiple p q (f ∷ fs) (v ∷ vs) pp pq pf l (inl h) =
     let step : pos 0 <ℤ (f.den *ℤ (p *ℤ v)) = mul_pos f.den (p *ℤ v) (All-head IsFraction f fs pf) (mul_pos p v pp h) in
     inl (combine5 (λ a b p q v. a ⊗ (q ⊗ b) ≺ (q ⊗ a ⊕ p ⊗ v) ⊗ b ⇐ con (pos 1) ✶ (con (pos 0) ≺ b ⊗ (p ⊗ v)) ∷ []) refl f.num f.den p q v (lt_z_yes tt) step)
 LexLess-plus_multiple p q (f ∷ fs) (v ∷ vs) pp pq pf l (inr h) =
-    inr (combine5 (λ a b p q v. a ⊗ (q ⊗ b) ≗ (q ⊗ a ⊕ p ⊗ v) ⊗ b ⇐ (p ⊗ b) ✶ (con (pos 0) ≗ v) ∷ []) refl f.num f.den p q v (sym h.0), LexLess-plus_multiple p q fs vs pp pq (All-tail IsFraction f fs pf) (omega arith) h.1)
+    inr (
+      combine5 (λ a b p q v. a ⊗ (q ⊗ b) ≗ (q ⊗ a ⊕ p ⊗ v) ⊗ b ⇐ (p ⊗ b) ✶ (con (pos 0) ≗ v) ∷ []) refl f.num f.den p q v (sym h.0),
+      LexLess-plus_multiple p
+          q fs vs pp pq (All-tail IsFraction f fs pf) (omega arith) h.1,
+    )

@@ -54,7 +54,8 @@ IsLexPositive-products ds xs p l = (to ds xs p l, from ds xs p l)
     from (d ∷ ds) [] p l h = h
     from [] (x ∷ xs) p l h = absurd h
     from (d ∷ ds) (x ∷ xs) p l (inl h) = inl (pos_of_mul x d (All-head (λ d. pos 0 <ℤ d) d ds p) (subst (λ z. pos 0 <ℤ z) (*ℤ_comm d x) h))
-    from (d ∷ ds) (x ∷ xs) p l (inr h) = inr (zero_of_mul x d (All-head (λ d. pos 0 <ℤ d) d ds p) (*ℤ_comm x d ∙ h.0), from ds xs (All-tail (λ d. pos 0 <ℤ d) d ds p) (omega arith) h.1)
+    from (d ∷ ds) (x ∷ xs) p l (inr h) =
+        inr (zero_of_mul x d (All-head (λ d. pos 0 <ℤ d) d ds p) (*ℤ_comm x d ∙ h.0), from ds xs (All-tail (λ d. pos 0 <ℤ d) d ds p) (omega arith) h.1)
 
 -- the first number is a positive multiple of the second
 abbrev pub IsMultiple : ℤ → ℤ → Type 0
@@ -97,7 +98,8 @@ pub lex_cases : (xs : List ℤ) → IsLexPositive xs ⊎ AreZero xs ⊎ IsLexPos
 lex_cases [] = inr (inl (All-nil (λ x. x ≡ pos 0)))
 lex_cases (x ∷ xs) = step (lt_cases (pos 0) x) (lex_cases xs)
   where
-    step : pos 0 <ℤ x ⊎ (pos 0 ≡ x) ⊎ x <ℤ pos 0 → IsLexPositive xs ⊎ AreZero xs ⊎ IsLexPositive (scale (negsuc 0) xs) → IsLexPositive (x ∷ xs) ⊎ AreZero (x ∷ xs) ⊎ IsLexPositive (scale (negsuc 0) (x ∷ xs))
+    step : pos 0 <ℤ x ⊎ (pos 0 ≡ x) ⊎ x <ℤ pos 0 → IsLexPositive xs ⊎ AreZero xs ⊎ IsLexPositive (scale (negsuc 0) xs)
+        → IsLexPositive (x ∷ xs) ⊎ AreZero (x ∷ xs) ⊎ IsLexPositive (scale (negsuc 0) (x ∷ xs))
     step (inl p) c = inl (inl p)
     step (inr (inl e)) (inl p) = inl (inr (sym e, p))
     step (inr (inl e)) (inr (inl z)) = inr (inl (AreZero-cons x xs (sym e) z))
@@ -119,15 +121,25 @@ IsLexPositive-row_step p q xs ys pp qq hx hy = subst IsLexPositive (sym (row_ste
     step (inr (inr h)) = absurd (omega (arith, lin))
 
 -- of positive rows a sum with weights at least 0 is positive, unless all weights are 0 and the sum is
-pub IsLexPositive-weighted_sum : (ys : List ℤ) (rows : List (List ℤ)) → AreNonNegative ys → All IsLexPositive rows → length ys ≤ length rows → IsLexPositive (weighted_sum ys rows) ⊎ AreZero ys × AreZero (weighted_sum ys rows)
+pub IsLexPositive-weighted_sum : (ys : List ℤ) (rows : List (List ℤ)) → AreNonNegative ys → All IsLexPositive rows → length ys ≤ length rows
+    → IsLexPositive (weighted_sum ys rows) ⊎ AreZero ys × AreZero (weighted_sum ys rows)
 IsLexPositive-weighted_sum [] rows p h l = inr (All-nil (λ x. x ≡ pos 0), All-nil (λ x. x ≡ pos 0))
 IsLexPositive-weighted_sum (y ∷ ys) [] p h l = absurd (omega arith)
 IsLexPositive-weighted_sum (y ∷ ys) (row ∷ rows) p h l =
-    step (lt_cases (pos 0) y) (IsLexPositive-weighted_sum ys rows (All-tail (λ x. pos 0 ≤ℤ x) y ys p) (All-tail IsLexPositive row rows h) (omega arith)) (All-head (λ x. pos 0 ≤ℤ x) y ys p) (All-head IsLexPositive row rows h)
+    step (lt_cases (pos 0) y) (IsLexPositive-weighted_sum ys rows (All-tail (λ x. pos 0 ≤ℤ x) y ys p) (All-tail IsLexPositive row rows h) (omega arith))
+    (All-head (λ x. pos 0 ≤ℤ x) y ys p) (All-head IsLexPositive row rows h)
   where
-    step : pos 0 <ℤ y ⊎ (pos 0 ≡ y) ⊎ y <ℤ pos 0 → IsLexPositive (weighted_sum ys rows) ⊎ AreZero ys × AreZero (weighted_sum ys rows) → pos 0 ≤ℤ y → IsLexPositive row → IsLexPositive (add (scale y row) (weighted_sum ys rows)) ⊎ AreZero (y ∷ ys) × AreZero (add (scale y row) (weighted_sum ys rows))
+    step : pos 0 <ℤ y ⊎ (pos 0 ≡ y) ⊎ y <ℤ pos 0 → IsLexPositive (weighted_sum ys rows) ⊎ AreZero ys × AreZero (weighted_sum ys rows) → pos 0 ≤ℤ y
+        → IsLexPositive row → IsLexPositive (add (scale y row) (weighted_sum ys rows)) ⊎ AreZero (y ∷ ys) × AreZero (add (scale y row) (weighted_sum ys rows))
     step (inl q) (inl r) n k = inl (IsLexPositive-add (scale y row) (weighted_sum ys rows) ((IsLexPositive-scale y row q).0 k) r)
     step (inl q) (inr r) n k = inl (IsLexPositive-add_zero (scale y row) (weighted_sum ys rows) ((IsLexPositive-scale y row q).0 k) r.1)
-    step (inr (inl e)) (inl r) n k = inl (subst IsLexPositive (add_comm (weighted_sum ys rows) (scale y row)) (IsLexPositive-add_zero (weighted_sum ys rows) (scale y row) r (subst (λ c. AreZero (scale c row)) e (AreZero-scale_zero row))))
-    step (inr (inl e)) (inr r) n k = inr (AreZero-cons y ys (sym e) r.0, AreZero-add (scale y row) (weighted_sum ys rows) (subst (λ c. AreZero (scale c row)) e (AreZero-scale_zero row)) r.1)
+    step (inr (inl e)) (inl r) n k =
+        inl (subst IsLexPositive (add_comm (weighted_sum ys rows) (scale y row))
+        (IsLexPositive-add_zero (weighted_sum ys rows) (scale y row) r (subst (λ c. AreZero (scale c row)) e (AreZero-scale_zero row))))
+    step (inr (inl e)) (inr r) n k =
+        inr (
+          AreZero-cons y ys (sym e) r.0,
+          AreZero-add (scale y row) (weighted_sum ys rows)
+              (subst (λ c. AreZero (scale c row)) e (AreZero-scale_zero row)) r.1,
+        )
     step (inr (inr q)) c n k = absurd (omega (arith, lin))

@@ -48,12 +48,17 @@ Contains-filter {A} p (y ∷ xs) x c e = step (p y) refl (Contains-cons_cases y 
 
 -- what a filter keeps is of the list
 pub Contains-from_filter : {A : Type 0} (p : A → Bool) (xs : List A) (x : A) → Contains (filter p xs) x → Contains xs x × (p x ≡ true)
-Contains-from_filter p xs x c = (All-contains (Contains xs) (filter p xs) x (All-filter p (Contains xs) xs (All-contains_itself xs)) c, All-contains (λ y. p y ≡ true) (filter p xs) x (filter_passes p xs) c)
+Contains-from_filter p xs x c = (
+  All-contains (Contains xs) (filter p xs) x (All-filter p (Contains xs) xs (All-contains_itself xs)) c,
+  All-contains (λ y. p y ≡ true) (filter p xs) x
+      (filter_passes p xs) c,
+)
 
 -- ---- the first place that passes
 
 -- a place that passes, after places that fail, is the first that passes
-pub position-is : {X : Type 0} (p : X → Bool) (xs : List X) (i : ℕ) (d : X) → i < length xs → p (get_or xs i d) ≡ true → ((k : ℕ) → k < i → p (get_or xs k d) ≡ false) → position p xs ≡ Some i
+pub position-is : {X : Type 0} (p : X → Bool) (xs : List X) (i : ℕ) (d : X) → i < length xs → p (get_or xs i d) ≡ true
+    → ((k : ℕ) → k < i → p (get_or xs k d) ≡ false) → position p xs ≡ Some i
 position-is p xs i d below passes fails =
     let e : position_or_len p xs ≡ i = position_or_len_is p xs i d (omega arith) fails (λ _. passes) in
     cond-true (ltb (position_or_len p xs) (length xs)) (Some (position_or_len p xs)) None (lt-ltb (position_or_len p xs) (length xs) (omega arith)) ∙ ap Some e
@@ -63,7 +68,9 @@ pub position-none : {X : Type 0} (p : X → Bool) (xs : List X) → (position p 
 position-none {X} p xs = (to (cases_lt (position_or_len p xs) (length xs)), from)
   where
     to : (position_or_len p xs < length xs) ⊎ (length xs ≤ position_or_len p xs) → position p xs ≡ None → All (λ x. p x ≡ false) xs
-    to (inl l) e = let s = sym (cond-true (ltb (position_or_len p xs) (length xs)) (Some (position_or_len p xs)) None (lt-ltb (position_or_len p xs) (length xs) l)) ∙ e in absurd (cc s)
+    to (inl l) e =
+        let s = sym (cond-true (ltb (position_or_len p xs) (length xs)) (Some (position_or_len p xs)) None (lt-ltb (position_or_len p xs) (length xs) l))
+        ∙ e in absurd (cc s)
     to (inr l) e = λ k d below. fails_before_first p xs k d (omega arith)
 
     from : All (λ x. p x ≡ false) xs → position p xs ≡ None
@@ -72,5 +79,7 @@ position-none {X} p xs = (to (cases_lt (position_or_len p xs) (length xs)), from
         at : (ys : List X) → All (λ x. p x ≡ false) ys → position p ys ≡ None
         at [] h = refl
         at (y ∷ ys) h =
-            let e : position_or_len p (y ∷ ys) ≡ length (y ∷ ys) = position_or_len_is p (y ∷ ys) (length (y ∷ ys)) y (omega arith) (λ k l. h k y l) (λ l. absurd (omega arith)) in
-            cond-false (ltb (position_or_len p (y ∷ ys)) (length (y ∷ ys))) (Some (position_or_len p (y ∷ ys))) None (le-ltb (position_or_len p (y ∷ ys)) (length (y ∷ ys)) (omega arith))
+            let e : position_or_len p (y ∷ ys) ≡ length (y ∷ ys) =
+            position_or_len_is p (y ∷ ys) (length (y ∷ ys)) y (omega arith) (λ k l. h k y l) (λ l. absurd (omega arith)) in
+            cond-false (ltb (position_or_len p (y ∷ ys)) (length (y ∷ ys))) (Some (position_or_len p (y ∷ ys))) None
+            (le-ltb (position_or_len p (y ∷ ys)) (length (y ∷ ys)) (omega arith))

@@ -53,7 +53,8 @@ All-numbers P n = (
 )
 
 -- a test of all numbers below n
-pub Decides-numbers : (p : ℕ → Bool) (P : ℕ → Type 0) → ((k : ℕ) → Decides (p k) (P k)) → (n : ℕ) → Decides (list_all p (numbers_from 0 n)) ((k : ℕ) → k < n → P k)
+pub Decides-numbers : (p : ℕ → Bool) (P : ℕ → Type 0) → ((k : ℕ) → Decides (p k) (P k)) → (n : ℕ)
+    → Decides (list_all p (numbers_from 0 n)) ((k : ℕ) → k < n → P k)
 Decides-numbers p P each n =
     let all = Decides-by_and p P (list_all p) each refl (λ _ _. refl) (numbers_from 0 n) in
     let one = All-numbers P n in
@@ -66,14 +67,17 @@ pub find-numbers_some : (p : ℕ → Bool) (a n e : ℕ) → find p (numbers_fro
 find-numbers_some p a zero e h = absurd (cc h)
 find-numbers_some p a (suc n) e h = step (p a) refl h (find-numbers_some p (suc a) n e)
   where
-    step : (b : Bool) → p a ≡ b → cond b (Some a) (find p (numbers_from (suc a) n)) ≡ Some e → (find p (numbers_from (suc a) n) ≡ Some e → (suc a ≤ e) × (e < suc a + n) × (p e ≡ true)) → (a ≤ e) × (e < a + suc n) × (p e ≡ true)
+    step : (b : Bool) → p a ≡ b → cond b (Some a) (find p (numbers_from (suc a) n)) ≡ Some e
+        → (find p (numbers_from (suc a) n) ≡ Some e → (suc a ≤ e) × (e < suc a + n) × (p e ≡ true)) → (a ≤ e) × (e < a + suc n) × (p e ≡ true)
     step true t h later = let s : a ≡ e = cc h in (omega arith, omega arith, subst (λ k. p k ≡ true) s t)
     step false t h later = let r = later h in (omega (arith, r.0), omega (arith, r.1), r.2)
 
 -- a number in the range that passes is found where no other number passes
-pub find-numbers_is : (p : ℕ → Bool) (a n e : ℕ) → a ≤ e → e < a + n → p e ≡ true → ((f : ℕ) → f < a + n → f ≢ e → p f ≡ false) → find p (numbers_from a n) ≡ Some e
+pub find-numbers_is : (p : ℕ → Bool) (a n e : ℕ) → a ≤ e → e < a + n → p e ≡ true → ((f : ℕ) → f < a + n → f ≢ e → p f ≡ false)
+    → find p (numbers_from a n) ≡ Some e
 find-numbers_is p a zero e low high passes fails = absurd (omega arith)
-find-numbers_is p a (suc n) e low high passes fails = step (cases_eq a e) (λ apart. find-numbers_is p (suc a) n e (omega arith) (omega arith) passes (λ f l. fails f (omega arith)))
+find-numbers_is p a (suc n) e low high passes fails =
+    step (cases_eq a e) (λ apart. find-numbers_is p (suc a) n e (omega arith) (omega arith) passes (λ f l. fails f (omega arith)))
   where
     step : (a ≡ e) ⊎ (a ≢ e) → (a ≢ e → find p (numbers_from (suc a) n) ≡ Some e) → cond (p a) (Some a) (find p (numbers_from (suc a) n)) ≡ Some e
     step (inl s) later = cond-true (p a) (Some a) (find p (numbers_from (suc a) n)) (subst (λ k. p k ≡ true) (sym s) passes) ∙ ap Some s
@@ -82,4 +86,5 @@ find-numbers_is p a (suc n) e low high passes fails = step (cases_eq a e) (λ ap
 -- none is found where none passes
 pub find-numbers_none : (p : ℕ → Bool) (a n : ℕ) → ((f : ℕ) → f < a + n → p f ≡ false) → find p (numbers_from a n) ≡ None
 find-numbers_none p a zero fails = refl
-find-numbers_none p a (suc n) fails = cond-false (p a) (Some a) (find p (numbers_from (suc a) n)) (fails a (omega arith)) ∙ find-numbers_none p (suc a) n (λ f l. fails f (omega arith))
+find-numbers_none p a (suc n) fails =
+    cond-false (p a) (Some a) (find p (numbers_from (suc a) n)) (fails a (omega arith)) ∙ find-numbers_none p (suc a) n (λ f l. fails f (omega arith))

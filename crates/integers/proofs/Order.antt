@@ -86,39 +86,54 @@ nonneg_of_mul a b p h = let z = zero-*ℤ b in cancel_le (pos 0) a b p (omega (a
 
 -- below, then below
 pub fraction_lt_lt : (a b c d e f : ℤ) → pos 0 <ℤ b → pos 0 <ℤ d → pos 0 <ℤ f → (a *ℤ d) <ℤ (c *ℤ b) → (c *ℤ f) <ℤ (e *ℤ d) → (a *ℤ f) <ℤ (e *ℤ b)
-fraction_lt_lt a b c d e f pb pd pf h k = cancel_lt (a *ℤ f) (e *ℤ b) d pd (combine6 (λ a b c d e f. a ⊗ f ⊗ d ≺ e ⊗ b ⊗ d ⇐ f ✶ (a ⊗ d ≺ c ⊗ b) ∷ b ✶ (c ⊗ f ≺ e ⊗ d) ∷ []) refl a b c d e f pf h pb k)
+fraction_lt_lt a b c d e f pb pd pf h k =
+    cancel_lt (a *ℤ f) (e *ℤ b) d pd (combine6 (λ a b c d e f. a ⊗ f ⊗ d ≺ e ⊗ b ⊗ d ⇐ f ✶ (a ⊗ d ≺ c ⊗ b) ∷ b ✶ (c ⊗ f ≺ e ⊗ d) ∷ []) refl a b
+    c d e f pf h pb k)
 
 -- below, then at most
 pub fraction_lt_le : (a b c d e f : ℤ) → pos 0 <ℤ b → pos 0 <ℤ d → pos 0 <ℤ f → (a *ℤ d) <ℤ (c *ℤ b) → (c *ℤ f) ≤ℤ (e *ℤ d) → (a *ℤ f) <ℤ (e *ℤ b)
-fraction_lt_le a b c d e f pb pd pf h k = cancel_lt (a *ℤ f) (e *ℤ b) d pd (combine6 (λ a b c d e f. a ⊗ f ⊗ d ≺ e ⊗ b ⊗ d ⇐ f ✶ (a ⊗ d ≺ c ⊗ b) ∷ b ✶ (c ⊗ f ≼ e ⊗ d) ∷ []) refl a b c d e f pf h (le_of_lt (pos 0) b pb) k)
+fraction_lt_le a b c d e f pb pd pf h k =
+    cancel_lt (a *ℤ f) (e *ℤ b) d pd (combine6 (λ a b c d e f. a ⊗ f ⊗ d ≺ e ⊗ b ⊗ d ⇐ f ✶ (a ⊗ d ≺ c ⊗ b) ∷ b ✶ (c ⊗ f ≼ e ⊗ d) ∷ []) refl a b c d e f pf h
+    (le_of_lt (pos 0) b pb) k)
 
 -- below, then equal
 pub fraction_lt_eq : (a b c d e f : ℤ) → pos 0 <ℤ b → pos 0 <ℤ d → pos 0 <ℤ f → (a *ℤ d) <ℤ (c *ℤ b) → c *ℤ f ≡ e *ℤ d → (a *ℤ f) <ℤ (e *ℤ b)
-fraction_lt_eq a b c d e f pb pd pf h k = cancel_lt (a *ℤ f) (e *ℤ b) d pd (combine6 (λ a b c d e f. a ⊗ f ⊗ d ≺ e ⊗ b ⊗ d ⇐ f ✶ (a ⊗ d ≺ c ⊗ b) ∷ b ✶ (c ⊗ f ≗ e ⊗ d) ∷ []) refl a b c d e f pf h k)
+fraction_lt_eq a b c d e f pb pd pf h k =
+    cancel_lt (a *ℤ f) (e *ℤ b) d pd (combine6 (λ a b c d e f. a ⊗ f ⊗ d ≺ e ⊗ b ⊗ d ⇐ f ✶ (a ⊗ d ≺ c ⊗ b) ∷ b ✶ (c ⊗ f ≗ e ⊗ d) ∷ []) refl a b c d e f pf h k)
 
 -- at most, then below
 pub fraction_le_lt : (a b c d e f : ℤ) → pos 0 <ℤ b → pos 0 <ℤ d → pos 0 <ℤ f → (a *ℤ d) ≤ℤ (c *ℤ b) → (c *ℤ f) <ℤ (e *ℤ d) → (a *ℤ f) <ℤ (e *ℤ b)
-fraction_le_lt a b c d e f pb pd pf h k = cancel_lt (a *ℤ f) (e *ℤ b) d pd (combine6 (λ a b c d e f. a ⊗ f ⊗ d ≺ e ⊗ b ⊗ d ⇐ f ✶ (a ⊗ d ≼ c ⊗ b) ∷ b ✶ (c ⊗ f ≺ e ⊗ d) ∷ []) refl a b c d e f (le_of_lt (pos 0) f pf) h pb k)
+fraction_le_lt a b c d e f pb pd pf h k =
+    cancel_lt (a *ℤ f) (e *ℤ b) d pd (combine6 (λ a b c d e f. a ⊗ f ⊗ d ≺ e ⊗ b ⊗ d ⇐ f ✶ (a ⊗ d ≼ c ⊗ b) ∷ b ✶ (c ⊗ f ≺ e ⊗ d) ∷ []) refl a b c d e f
+    (le_of_lt (pos 0) f pf) h pb k)
 
 -- at most, then at most
 pub fraction_le_le : (a b c d e f : ℤ) → pos 0 <ℤ b → pos 0 <ℤ d → pos 0 <ℤ f → (a *ℤ d) ≤ℤ (c *ℤ b) → (c *ℤ f) ≤ℤ (e *ℤ d) → (a *ℤ f) ≤ℤ (e *ℤ b)
-fraction_le_le a b c d e f pb pd pf h k = cancel_le (a *ℤ f) (e *ℤ b) d pd (combine6 (λ a b c d e f. a ⊗ f ⊗ d ≼ e ⊗ b ⊗ d ⇐ f ✶ (a ⊗ d ≼ c ⊗ b) ∷ b ✶ (c ⊗ f ≼ e ⊗ d) ∷ []) refl a b c d e f (le_of_lt (pos 0) f pf) h (le_of_lt (pos 0) b pb) k)
+fraction_le_le a b c d e f pb pd pf h k =
+    cancel_le (a *ℤ f) (e *ℤ b) d pd (combine6 (λ a b c d e f. a ⊗ f ⊗ d ≼ e ⊗ b ⊗ d ⇐ f ✶ (a ⊗ d ≼ c ⊗ b) ∷ b ✶ (c ⊗ f ≼ e ⊗ d) ∷ []) refl a b c d e f
+    (le_of_lt (pos 0) f pf) h (le_of_lt (pos 0) b pb) k)
 
 -- at most, then equal
 pub fraction_le_eq : (a b c d e f : ℤ) → pos 0 <ℤ b → pos 0 <ℤ d → pos 0 <ℤ f → (a *ℤ d) ≤ℤ (c *ℤ b) → c *ℤ f ≡ e *ℤ d → (a *ℤ f) ≤ℤ (e *ℤ b)
-fraction_le_eq a b c d e f pb pd pf h k = cancel_le (a *ℤ f) (e *ℤ b) d pd (combine6 (λ a b c d e f. a ⊗ f ⊗ d ≼ e ⊗ b ⊗ d ⇐ f ✶ (a ⊗ d ≼ c ⊗ b) ∷ b ✶ (c ⊗ f ≗ e ⊗ d) ∷ []) refl a b c d e f (le_of_lt (pos 0) f pf) h k)
+fraction_le_eq a b c d e f pb pd pf h k =
+    cancel_le (a *ℤ f) (e *ℤ b) d pd (combine6 (λ a b c d e f. a ⊗ f ⊗ d ≼ e ⊗ b ⊗ d ⇐ f ✶ (a ⊗ d ≼ c ⊗ b) ∷ b ✶ (c ⊗ f ≗ e ⊗ d) ∷ []) refl a b c d e f
+    (le_of_lt (pos 0) f pf) h k)
 
 -- equal, then below
 pub fraction_eq_lt : (a b c d e f : ℤ) → pos 0 <ℤ b → pos 0 <ℤ d → pos 0 <ℤ f → a *ℤ d ≡ c *ℤ b → (c *ℤ f) <ℤ (e *ℤ d) → (a *ℤ f) <ℤ (e *ℤ b)
-fraction_eq_lt a b c d e f pb pd pf h k = cancel_lt (a *ℤ f) (e *ℤ b) d pd (combine6 (λ a b c d e f. a ⊗ f ⊗ d ≺ e ⊗ b ⊗ d ⇐ f ✶ (a ⊗ d ≗ c ⊗ b) ∷ b ✶ (c ⊗ f ≺ e ⊗ d) ∷ []) refl a b c d e f h pb k)
+fraction_eq_lt a b c d e f pb pd pf h k =
+    cancel_lt (a *ℤ f) (e *ℤ b) d pd (combine6 (λ a b c d e f. a ⊗ f ⊗ d ≺ e ⊗ b ⊗ d ⇐ f ✶ (a ⊗ d ≗ c ⊗ b) ∷ b ✶ (c ⊗ f ≺ e ⊗ d) ∷ []) refl a b c d e f h pb k)
 
 -- equal, then at most
 pub fraction_eq_le : (a b c d e f : ℤ) → pos 0 <ℤ b → pos 0 <ℤ d → pos 0 <ℤ f → a *ℤ d ≡ c *ℤ b → (c *ℤ f) ≤ℤ (e *ℤ d) → (a *ℤ f) ≤ℤ (e *ℤ b)
-fraction_eq_le a b c d e f pb pd pf h k = cancel_le (a *ℤ f) (e *ℤ b) d pd (combine6 (λ a b c d e f. a ⊗ f ⊗ d ≼ e ⊗ b ⊗ d ⇐ f ✶ (a ⊗ d ≗ c ⊗ b) ∷ b ✶ (c ⊗ f ≼ e ⊗ d) ∷ []) refl a b c d e f h (le_of_lt (pos 0) b pb) k)
+fraction_eq_le a b c d e f pb pd pf h k =
+    cancel_le (a *ℤ f) (e *ℤ b) d pd (combine6 (λ a b c d e f. a ⊗ f ⊗ d ≼ e ⊗ b ⊗ d ⇐ f ✶ (a ⊗ d ≗ c ⊗ b) ∷ b ✶ (c ⊗ f ≼ e ⊗ d) ∷ []) refl a b c d e f h
+    (le_of_lt (pos 0) b pb) k)
 
 -- equal, then equal
 pub fraction_eq_eq : (a b c d e f : ℤ) → pos 0 <ℤ b → pos 0 <ℤ d → pos 0 <ℤ f → a *ℤ d ≡ c *ℤ b → c *ℤ f ≡ e *ℤ d → a *ℤ f ≡ e *ℤ b
-fraction_eq_eq a b c d e f pb pd pf h k = cancel_eq (a *ℤ f) (e *ℤ b) d pd (combine6 (λ a b c d e f. a ⊗ f ⊗ d ≗ e ⊗ b ⊗ d ⇐ f ✶ (a ⊗ d ≗ c ⊗ b) ∷ b ✶ (c ⊗ f ≗ e ⊗ d) ∷ []) refl a b c d e f h k)
+fraction_eq_eq a b c d e f pb pd pf h k =
+    cancel_eq (a *ℤ f) (e *ℤ b) d pd (combine6 (λ a b c d e f. a ⊗ f ⊗ d ≗ e ⊗ b ⊗ d ⇐ f ✶ (a ⊗ d ≗ c ⊗ b) ∷ b ✶ (c ⊗ f ≗ e ⊗ d) ∷ []) refl a b c d e f h k)
 
 -- of two fractions one is below the other or they are equal
 pub fraction_cases : (a b c d : ℤ) → (a *ℤ d) <ℤ (c *ℤ b) ⊎ (a *ℤ d ≡ c *ℤ b) ⊎ (c *ℤ b) <ℤ (a *ℤ d)
@@ -140,7 +155,8 @@ divided_pos a c k p e = (λ h. pos_of_mul c k p (subst (λ x. pos 0 <ℤ x) e h)
 
 -- a positive divisor keeps the sign: not negative
 pub divided_nonneg : (a c k : ℤ) → pos 0 <ℤ k → a ≡ c *ℤ k → pos 0 ≤ℤ a ↔ pos 0 ≤ℤ c
-divided_nonneg a c k p e = (λ h. nonneg_of_mul c k p (subst (λ x. pos 0 ≤ℤ x) e h), λ h. subst (λ x. pos 0 ≤ℤ x) (sym e) (mul_nonneg c k h (le_of_lt (pos 0) k p)))
+divided_nonneg a c k p e =
+    (λ h. nonneg_of_mul c k p (subst (λ x. pos 0 ≤ℤ x) e h), λ h. subst (λ x. pos 0 ≤ℤ x) (sym e) (mul_nonneg c k h (le_of_lt (pos 0) k p)))
 
 -- a positive divisor keeps the sign: zero
 pub divided_zero : (a c k : ℤ) → pos 0 <ℤ k → a ≡ c *ℤ k → (a ≡ pos 0) ↔ (c ≡ pos 0)

@@ -79,7 +79,8 @@ keep (negsuc n) m p = term (negsuc n) m p
 -- a monomial into its place in a sum
 abbrev pub insert_term : ℤ → List ℕ → Poly → Poly
 insert_term c m nil = term c m nil
-insert_term c m (term d n p) = elim (order_mono m n) [ Ordering.lt ↦ term c m (term d n p) | Ordering.eq ↦ keep (c +ℤ d) n p | Ordering.gt ↦ term d n (insert_term c m p) ]
+insert_term c m (term d n p) =
+    elim (order_mono m n) [ Ordering.lt ↦ term c m (term d n p) | Ordering.eq ↦ keep (c +ℤ d) n p | Ordering.gt ↦ term d n (insert_term c m p) ]
 
 -- the sum of two sums
 abbrev pub add_poly : Poly → Poly → Poly
@@ -117,14 +118,16 @@ insert_var_lem : (env : List ℤ) (i : ℕ) (m : List ℕ) → eval_mono env (in
 insert_var_lem env i [] = refl
 insert_var_lem env i (j ∷ js) = step (leb i j) (insert_var_lem env i js)
   where
-    step : (b : Bool) → eval_mono env (insert_var i js) ≡ at env i *ℤ eval_mono env js → eval_mono env (elim b [ true ↦ i ∷ j ∷ js | false ↦ j ∷ insert_var i js ]) ≡ at env i *ℤ (at env j *ℤ eval_mono env js)
+    step : (b : Bool) → eval_mono env (insert_var i js) ≡ at env i *ℤ eval_mono env js
+        → eval_mono env (elim b [ true ↦ i ∷ j ∷ js | false ↦ j ∷ insert_var i js ]) ≡ at env i *ℤ (at env j *ℤ eval_mono env js)
     step true ih = refl
     step false ih = ap (λ x. at env j *ℤ x) ih ∙ *ℤ_left_comm (at env j) (at env i) (eval_mono env js)
 
 -- the value of a product of monomials
 mul_mono_lem : (env : List ℤ) (m n : List ℕ) → eval_mono env (mul_mono m n) ≡ eval_mono env m *ℤ eval_mono env n
 mul_mono_lem env [] n = sym (one-*ℤ (eval_mono env n))
-mul_mono_lem env (i ∷ m) n = insert_var_lem env i (mul_mono m n) ∙ ap (λ x. at env i *ℤ x) (mul_mono_lem env m n) ∙ sym (*ℤ_assoc (at env i) (eval_mono env m) (eval_mono env n))
+mul_mono_lem env (i ∷ m) n =
+    insert_var_lem env i (mul_mono m n) ∙ ap (λ x. at env i *ℤ x) (mul_mono_lem env m n) ∙ sym (*ℤ_assoc (at env i) (eval_mono env m) (eval_mono env n))
 
 -- monomials that stand equal are equal
 order_mono_lem : (m n : List ℕ) → T (compare_is_eq (order_mono m n)) → m ≡ n
@@ -133,7 +136,8 @@ order_mono_lem [] (j ∷ n) t = absurd t
 order_mono_lem (i ∷ m) [] t = absurd t
 order_mono_lem (i ∷ m) (j ∷ n) t = step (compare i j) (eqb→eq i j) (order_mono_lem m n) t
   where
-    step : (o : Ordering) → (T (compare_is_eq o) → i ≡ j) → (T (compare_is_eq (order_mono m n)) → m ≡ n) → T (compare_is_eq (elim o [ Ordering.lt ↦ Ordering.lt | Ordering.eq ↦ order_mono m n | Ordering.gt ↦ Ordering.gt ])) → i ∷ m ≡ j ∷ n
+    step : (o : Ordering) → (T (compare_is_eq o) → i ≡ j) → (T (compare_is_eq (order_mono m n)) → m ≡ n)
+        → T (compare_is_eq (elim o [ Ordering.lt ↦ Ordering.lt | Ordering.eq ↦ order_mono m n | Ordering.gt ↦ Ordering.gt ])) → i ∷ m ≡ j ∷ n
     step Ordering.lt e ih t = absurd t
     step Ordering.eq e ih t = ap₂ (λ x y. x ∷ y) (e tt) (ih t)
     step Ordering.gt e ih t = absurd t
@@ -149,22 +153,30 @@ insert_term_lem : (env : List ℤ) (c : ℤ) (m : List ℕ) (p : Poly) → eval_
 insert_term_lem env c m nil = refl
 insert_term_lem env c m (term d n p) = step (order_mono m n) (order_mono_lem m n) (insert_term_lem env c m p)
   where
-    step : (o : Ordering) → (T (compare_is_eq o) → m ≡ n) → eval_poly env (insert_term c m p) ≡ c *ℤ eval_mono env m +ℤ eval_poly env p → eval_poly env (elim o [ Ordering.lt ↦ term c m (term d n p) | Ordering.eq ↦ keep (c +ℤ d) n p | Ordering.gt ↦ term d n (insert_term c m p) ]) ≡ c *ℤ eval_mono env m +ℤ (d *ℤ eval_mono env n +ℤ eval_poly env p)
+    step : (o : Ordering) → (T (compare_is_eq o) → m ≡ n) → eval_poly env (insert_term c m p) ≡ c *ℤ eval_mono env m +ℤ eval_poly env p
+        → eval_poly env (elim o [ Ordering.lt ↦ term c m (term d n p) | Ordering.eq ↦ keep (c +ℤ d) n p | Ordering.gt ↦ term d n (insert_term c m p) ])
+        ≡ c *ℤ eval_mono env m +ℤ (d *ℤ eval_mono env n +ℤ eval_poly env p)
     step Ordering.lt e ih = refl
-    step Ordering.eq e ih = keep_lem env (c +ℤ d) n p ∙ ap (λ x. x +ℤ eval_poly env p) (+ℤ-*ℤ c d (eval_mono env n)) ∙ +ℤ_assoc (c *ℤ eval_mono env n) (d *ℤ eval_mono env n) (eval_poly env p) ∙ ap (λ x. c *ℤ eval_mono env x +ℤ (d *ℤ eval_mono env n +ℤ eval_poly env p)) (sym (e tt))
+    step Ordering.eq e ih =
+        keep_lem env (c +ℤ d) n p ∙ ap (λ x. x +ℤ eval_poly env p) (+ℤ-*ℤ c d (eval_mono env n))
+        ∙ +ℤ_assoc (c *ℤ eval_mono env n) (d *ℤ eval_mono env n) (eval_poly env p)
+        ∙ ap (λ x. c *ℤ eval_mono env x +ℤ (d *ℤ eval_mono env n +ℤ eval_poly env p)) (sym (e tt))
     step Ordering.gt e ih = ap (λ x. d *ℤ eval_mono env n +ℤ x) ih ∙ +ℤ_left_comm (d *ℤ eval_mono env n) (c *ℤ eval_mono env m) (eval_poly env p)
 
 -- the value of a sum
 add_poly_lem : (env : List ℤ) (p q : Poly) → eval_poly env (add_poly p q) ≡ eval_poly env p +ℤ eval_poly env q
 add_poly_lem env nil q = sym (+ℤ_idl (eval_poly env q))
-add_poly_lem env (term c m p) q = insert_term_lem env c m (add_poly p q) ∙ ap (λ x. c *ℤ eval_mono env m +ℤ x) (add_poly_lem env p q) ∙ sym (+ℤ_assoc (c *ℤ eval_mono env m) (eval_poly env p) (eval_poly env q))
+add_poly_lem env (term c m p) q =
+    insert_term_lem env c m (add_poly p q) ∙ ap (λ x. c *ℤ eval_mono env m +ℤ x) (add_poly_lem env p q)
+    ∙ sym (+ℤ_assoc (c *ℤ eval_mono env m) (eval_poly env p) (eval_poly env q))
 
 -- two coefficients and two monomials of a product change places
 swap_inner : (a b c d : ℤ) → (a *ℤ b) *ℤ (c *ℤ d) ≡ (a *ℤ c) *ℤ (b *ℤ d)
 swap_inner a b c d = *ℤ_assoc a b (c *ℤ d) ∙ ap (λ x. a *ℤ x) (*ℤ_left_comm b c d) ∙ sym (*ℤ_assoc a c (b *ℤ d))
 
 -- the value of a monomial times a sum, added to another
-add_product_lem : (env : List ℤ) (c : ℤ) (m : List ℕ) (q r : Poly) → eval_poly env (add_product c m q r) ≡ (c *ℤ eval_mono env m) *ℤ eval_poly env q +ℤ eval_poly env r
+add_product_lem : (env : List ℤ) (c : ℤ) (m : List ℕ) (q r : Poly)
+    → eval_poly env (add_product c m q r) ≡ (c *ℤ eval_mono env m) *ℤ eval_poly env q +ℤ eval_poly env r
 add_product_lem env c m nil r = sym (ap (λ x. x +ℤ eval_poly env r) (*ℤ-zero (c *ℤ eval_mono env m)) ∙ +ℤ_idl (eval_poly env r))
 add_product_lem env c m (term d n q) r =
     let x : ℤ = c *ℤ eval_mono env m in
@@ -172,17 +184,21 @@ add_product_lem env c m (term d n q) r =
     let rest = insert_term_lem env (c *ℤ d) (mul_mono m n) (add_product c m q r) in
     let ih = add_product_lem env c m q r in
     let out = *ℤ-+ℤ (c *ℤ eval_mono env m) (d *ℤ eval_mono env n) (eval_poly env q) in
-    rest ∙ ap₂ (λ u v. u +ℤ v) first ih ∙ sym (+ℤ_assoc (x *ℤ (d *ℤ eval_mono env n)) (x *ℤ eval_poly env q) (eval_poly env r)) ∙ ap (λ u. u +ℤ eval_poly env r) (sym out)
+    rest ∙ ap₂ (λ u v. u +ℤ v) first ih ∙ sym (+ℤ_assoc (x *ℤ (d *ℤ eval_mono env n)) (x *ℤ eval_poly env q) (eval_poly env r))
+    ∙ ap (λ u. u +ℤ eval_poly env r) (sym out)
 
 -- the value of a product
 mul_poly_lem : (env : List ℤ) (p q : Poly) → eval_poly env (mul_poly p q) ≡ eval_poly env p *ℤ eval_poly env q
 mul_poly_lem env nil q = sym (zero-*ℤ (eval_poly env q))
-mul_poly_lem env (term c m p) q = add_product_lem env c m q (mul_poly p q) ∙ ap (λ x. (c *ℤ eval_mono env m) *ℤ eval_poly env q +ℤ x) (mul_poly_lem env p q) ∙ sym (+ℤ-*ℤ (c *ℤ eval_mono env m) (eval_poly env p) (eval_poly env q))
+mul_poly_lem env (term c m p) q =
+    add_product_lem env c m q (mul_poly p q) ∙ ap (λ x. (c *ℤ eval_mono env m) *ℤ eval_poly env q +ℤ x) (mul_poly_lem env p q)
+    ∙ sym (+ℤ-*ℤ (c *ℤ eval_mono env m) (eval_poly env p) (eval_poly env q))
 
 -- the value with all signs changed
 neg_poly_lem : (env : List ℤ) (p : Poly) → eval_poly env (neg_poly p) ≡ neg_ℤ (eval_poly env p)
 neg_poly_lem env nil = refl
-neg_poly_lem env (term c m p) = ap₂ (λ x y. x +ℤ y) (neg_ℤ-*ℤ c (eval_mono env m)) (neg_poly_lem env p) ∙ sym (neg_ℤ-+ℤ (c *ℤ eval_mono env m) (eval_poly env p))
+neg_poly_lem env (term c m p) =
+    ap₂ (λ x y. x +ℤ y) (neg_ℤ-*ℤ c (eval_mono env m)) (neg_poly_lem env p) ∙ sym (neg_ℤ-+ℤ (c *ℤ eval_mono env m) (eval_poly env p))
 
 -- the normal form has the term's value
 pub norm_lem : (env : List ℤ) (e : Expr) → eval_poly env (norm e) ≡ eval env e
@@ -190,7 +206,9 @@ norm_lem env (var i) = +ℤ_idr (pos 1 *ℤ (at env i *ℤ pos 1)) ∙ one-*ℤ 
 norm_lem env (con c) = keep_lem env c [] nil ∙ +ℤ_idr (c *ℤ pos 1) ∙ *ℤ-one c
 norm_lem env (neg e) = neg_poly_lem env (norm e) ∙ ap neg_ℤ (norm_lem env e)
 norm_lem env (a ⊕ b) = add_poly_lem env (norm a) (norm b) ∙ ap₂ (λ x y. x +ℤ y) (norm_lem env a) (norm_lem env b)
-norm_lem env (a ⊖ b) = add_poly_lem env (neg_poly (norm b)) (norm a) ∙ ap₂ (λ x y. x +ℤ y) (neg_poly_lem env (norm b) ∙ ap neg_ℤ (norm_lem env b)) (norm_lem env a) ∙ +ℤ_comm (neg_ℤ (eval env b)) (eval env a)
+norm_lem env (a ⊖ b) =
+    add_poly_lem env (neg_poly (norm b)) (norm a) ∙ ap₂ (λ x y. x +ℤ y) (neg_poly_lem env (norm b) ∙ ap neg_ℤ (norm_lem env b)) (norm_lem env a)
+    ∙ +ℤ_comm (neg_ℤ (eval env b)) (eval env a)
 norm_lem env (a ⊗ b) = mul_poly_lem env (norm a) (norm b) ∙ ap₂ (λ x y. x *ℤ y) (norm_lem env a) (norm_lem env b)
 
 -- terms with one normal form have one value

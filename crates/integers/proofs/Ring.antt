@@ -157,17 +157,20 @@ at_end env (a ≺ b) is_not_negative z s e t = absurd t
 at_end env (a ≺ b) is_positive z s e t = omega (arith, lin)
 
 -- one given fact after the other goes into the sum
-implied : (env : List ℤ) (goal : Fact) (gs : List Given) (k : Sign) (z : ℤ) → HasSign k z → eval env (gap goal) ≡ z +ℤ eval env (total gs) → T (enough goal (sign_with k gs)) → Implies env goal gs
+implied : (env : List ℤ) (goal : Fact) (gs : List Given) (k : Sign) (z : ℤ) → HasSign k z → eval env (gap goal) ≡ z +ℤ eval env (total gs)
+    → T (enough goal (sign_with k gs)) → Implies env goal gs
 implied env goal [] k z s e t = at_end env goal k z s e t
 implied env goal (c ✶ (a ≗ b) ∷ gs) k z s e t =
     let x : ℤ = eval env c *ℤ (eval env b -ℤ eval env a) in
     λ h. implied env goal gs k (z +ℤ x) (with_zero k z x s (gap-same (eval env c) (eval env a) (eval env b) h)) (e ∙ sym (+ℤ_assoc z x (eval env (total gs)))) t
 implied env goal (c ✶ (a ≼ b) ∷ gs) k z s e t =
     let x : ℤ = eval env c *ℤ (eval env b -ℤ eval env a) in
-    λ p h. implied env goal gs (weaker k) (z +ℤ x) (with_not_negative k z x s (gap-at_most (eval env c) (eval env a) (eval env b) p h)) (e ∙ sym (+ℤ_assoc z x (eval env (total gs)))) t
+    λ p h. implied env goal gs (weaker k) (z +ℤ x) (with_not_negative k z x s (gap-at_most (eval env c) (eval env a) (eval env b) p h))
+    (e ∙ sym (+ℤ_assoc z x (eval env (total gs)))) t
 implied env goal (c ✶ (a ≺ b) ∷ gs) k z s e t =
     let x : ℤ = eval env c *ℤ (eval env b -ℤ eval env a) in
-    λ p h. implied env goal gs is_positive (z +ℤ x) (with_positive k z x s (gap-below (eval env c) (eval env a) (eval env b) p h)) (e ∙ sym (+ℤ_assoc z x (eval env (total gs)))) t
+    λ p h. implied env goal gs is_positive (z +ℤ x) (with_positive k z x s (gap-below (eval env c) (eval env a) (eval env b) p h))
+    (e ∙ sym (+ℤ_assoc z x (eval env (total gs)))) t
 
 -- whether the signs suffice
 suffices : Checked → Bool
@@ -181,7 +184,8 @@ sum_of (checked b p) = p
 pub combine : (env : List ℤ) (claim : Claim) → Follows claim → ClaimHolds env claim
 unfolding HasSign suffices sum_of
 combine env (goal ⇐ gs) e =
-    implied env goal gs is_zero (pos 0) refl (sym (same_value env (total gs) (gap goal) (ap sum_of e)) ∙ sym (+ℤ_idl (eval env (total gs)))) (subst T (sym (ap suffices e)) tt)
+    implied env goal gs is_zero (pos 0) refl (sym (same_value env (total gs) (gap goal) (ap sum_of e)) ∙ sym (+ℤ_idl (eval env (total gs))))
+    (subst T (sym (ap suffices e)) tt)
 
 -- an identity that computes holds at all values
 pub ring : (env : List ℤ) (fact : Fact) → Same fact → Holds env fact
@@ -204,40 +208,59 @@ pub ring3 : (fact : Expr → Expr → Expr → Fact) → Same (fact (var 0) (var
 ring3 fact same a b c = ring (a ∷ b ∷ c ∷ []) (fact (var 0) (var 1) (var 2)) same
 
 -- an identity in 4 variables
-pub ring4 : (fact : Expr → Expr → Expr → Expr → Fact) → Same (fact (var 0) (var 1) (var 2) (var 3)) → (a b c d : ℤ) → Holds (a ∷ b ∷ c ∷ d ∷ []) (fact (var 0) (var 1) (var 2) (var 3))
+pub ring4 : (fact : Expr → Expr → Expr → Expr → Fact) → Same (fact (var 0) (var 1) (var 2) (var 3)) → (a b c d : ℤ)
+    → Holds (a ∷ b ∷ c ∷ d ∷ []) (fact (var 0) (var 1) (var 2) (var 3))
 ring4 fact same a b c d = ring (a ∷ b ∷ c ∷ d ∷ []) (fact (var 0) (var 1) (var 2) (var 3)) same
 
 -- an identity in 5 variables
-pub ring5 : (fact : Expr → Expr → Expr → Expr → Expr → Fact) → Same (fact (var 0) (var 1) (var 2) (var 3) (var 4)) → (a b c d e : ℤ) → Holds (a ∷ b ∷ c ∷ d ∷ e ∷ []) (fact (var 0) (var 1) (var 2) (var 3) (var 4))
+pub ring5 : (fact : Expr → Expr → Expr → Expr → Expr → Fact) → Same (fact (var 0) (var 1) (var 2) (var 3) (var 4)) → (a b c d e : ℤ)
+    → Holds (a ∷ b ∷ c ∷ d ∷ e ∷ []) (fact (var 0) (var 1) (var 2) (var 3) (var 4))
 ring5 fact same a b c d e = ring (a ∷ b ∷ c ∷ d ∷ e ∷ []) (fact (var 0) (var 1) (var 2) (var 3) (var 4)) same
 
 -- an identity in 6 variables
-pub ring6 : (fact : Expr → Expr → Expr → Expr → Expr → Expr → Fact) → Same (fact (var 0) (var 1) (var 2) (var 3) (var 4) (var 5)) → (a b c d e f : ℤ) → Holds (a ∷ b ∷ c ∷ d ∷ e ∷ f ∷ []) (fact (var 0) (var 1) (var 2) (var 3) (var 4) (var 5))
+pub ring6 : (fact : Expr → Expr → Expr → Expr → Expr → Expr → Fact) → Same (fact (var 0) (var 1) (var 2) (var 3) (var 4) (var 5)) → (a b c d e f : ℤ)
+    → Holds (a ∷ b ∷ c ∷ d ∷ e ∷ f ∷ []) (fact (var 0) (var 1) (var 2) (var 3) (var 4) (var 5))
 ring6 fact same a b c d e f = ring (a ∷ b ∷ c ∷ d ∷ e ∷ f ∷ []) (fact (var 0) (var 1) (var 2) (var 3) (var 4) (var 5)) same
 
 -- an identity in 7 variables
-pub ring7 : (fact : Expr → Expr → Expr → Expr → Expr → Expr → Expr → Fact) → Same (fact (var 0) (var 1) (var 2) (var 3) (var 4) (var 5) (var 6)) → (a b c d e f g : ℤ) → Holds (a ∷ b ∷ c ∷ d ∷ e ∷ f ∷ g ∷ []) (fact (var 0) (var 1) (var 2) (var 3) (var 4) (var 5) (var 6))
+pub ring7 : (fact : Expr → Expr → Expr → Expr → Expr → Expr → Expr → Fact) → Same (fact (var 0) (var 1) (var 2) (var 3) (var 4) (var 5) (var 6))
+    → (a b c d e f g : ℤ) → Holds (a ∷ b ∷ c ∷ d ∷ e ∷ f ∷ g ∷ []) (fact (var 0) (var 1) (var 2) (var 3) (var 4) (var 5) (var 6))
 ring7 fact same a b c d e f g = ring (a ∷ b ∷ c ∷ d ∷ e ∷ f ∷ g ∷ []) (fact (var 0) (var 1) (var 2) (var 3) (var 4) (var 5) (var 6)) same
 
 -- an identity in 8 variables
-pub ring8 : (fact : Expr → Expr → Expr → Expr → Expr → Expr → Expr → Expr → Fact) → Same (fact (var 0) (var 1) (var 2) (var 3) (var 4) (var 5) (var 6) (var 7)) → (a b c d e f g h : ℤ) → Holds (a ∷ b ∷ c ∷ d ∷ e ∷ f ∷ g ∷ h ∷ []) (fact (var 0) (var 1) (var 2) (var 3) (var 4) (var 5) (var 6) (var 7))
+pub ring8 : (fact : Expr → Expr → Expr → Expr → Expr → Expr → Expr → Expr → Fact) → Same (fact (var 0) (var 1) (var 2) (var 3) (var 4) (var 5) (var 6) (var 7))
+    → (a b c d e f g h : ℤ) → Holds (a ∷ b ∷ c ∷ d ∷ e ∷ f ∷ g ∷ h ∷ []) (fact (var 0) (var 1) (var 2) (var 3) (var 4) (var 5) (var 6) (var 7))
 ring8 fact same a b c d e f g h = ring (a ∷ b ∷ c ∷ d ∷ e ∷ f ∷ g ∷ h ∷ []) (fact (var 0) (var 1) (var 2) (var 3) (var 4) (var 5) (var 6) (var 7)) same
 
 -- an identity in 9 variables
-pub ring9 : (fact : Expr → Expr → Expr → Expr → Expr → Expr → Expr → Expr → Expr → Fact) → Same (fact (var 0) (var 1) (var 2) (var 3) (var 4) (var 5) (var 6) (var 7) (var 8)) → (a b c d e f g h i : ℤ) → Holds (a ∷ b ∷ c ∷ d ∷ e ∷ f ∷ g ∷ h ∷ i ∷ []) (fact (var 0) (var 1) (var 2) (var 3) (var 4) (var 5) (var 6) (var 7) (var 8))
-ring9 fact same a b c d e f g h i = ring (a ∷ b ∷ c ∷ d ∷ e ∷ f ∷ g ∷ h ∷ i ∷ []) (fact (var 0) (var 1) (var 2) (var 3) (var 4) (var 5) (var 6) (var 7) (var 8)) same
+pub ring9 : (fact : Expr → Expr → Expr → Expr → Expr → Expr → Expr → Expr → Expr → Fact)
+    → Same (fact (var 0) (var 1) (var 2) (var 3) (var 4) (var 5) (var 6) (var 7) (var 8)) → (a b c d e f g h i : ℤ)
+    → Holds (a ∷ b ∷ c ∷ d ∷ e ∷ f ∷ g ∷ h ∷ i ∷ []) (fact (var 0) (var 1) (var 2) (var 3) (var 4) (var 5) (var 6) (var 7) (var 8))
+ring9 fact same a b c d e f g h i =
+    ring (a ∷ b ∷ c ∷ d ∷ e ∷ f ∷ g ∷ h ∷ i ∷ []) (fact (var 0) (var 1) (var 2) (var 3) (var 4) (var 5) (var 6) (var 7) (var 8)) same
 
 -- an identity in 10 variables
-pub ring10 : (fact : Expr → Expr → Expr → Expr → Expr → Expr → Expr → Expr → Expr → Expr → Fact) → Same (fact (var 0) (var 1) (var 2) (var 3) (var 4) (var 5) (var 6) (var 7) (var 8) (var 9)) → (a b c d e f g h i j : ℤ) → Holds (a ∷ b ∷ c ∷ d ∷ e ∷ f ∷ g ∷ h ∷ i ∷ j ∷ []) (fact (var 0) (var 1) (var 2) (var 3) (var 4) (var 5) (var 6) (var 7) (var 8) (var 9))
-ring10 fact same a b c d e f g h i j = ring (a ∷ b ∷ c ∷ d ∷ e ∷ f ∷ g ∷ h ∷ i ∷ j ∷ []) (fact (var 0) (var 1) (var 2) (var 3) (var 4) (var 5) (var 6) (var 7) (var 8) (var 9)) same
+pub ring10 : (fact : Expr → Expr → Expr → Expr → Expr → Expr → Expr → Expr → Expr → Expr → Fact)
+    → Same (fact (var 0) (var 1) (var 2) (var 3) (var 4) (var 5) (var 6) (var 7) (var 8) (var 9)) → (a b c d e f g h i j : ℤ)
+    → Holds (a ∷ b ∷ c ∷ d ∷ e ∷ f ∷ g ∷ h ∷ i ∷ j ∷ []) (fact (var 0) (var 1) (var 2) (var 3) (var 4) (var 5) (var 6) (var 7) (var 8) (var 9))
+ring10 fact same a b c d e f g h i j =
+    ring (a ∷ b ∷ c ∷ d ∷ e ∷ f ∷ g ∷ h ∷ i ∷ j ∷ []) (fact (var 0) (var 1) (var 2) (var 3) (var 4) (var 5) (var 6) (var 7) (var 8) (var 9)) same
 
 -- an identity in 11 variables
-pub ring11 : (fact : Expr → Expr → Expr → Expr → Expr → Expr → Expr → Expr → Expr → Expr → Expr → Fact) → Same (fact (var 0) (var 1) (var 2) (var 3) (var 4) (var 5) (var 6) (var 7) (var 8) (var 9) (var 10)) → (a b c d e f g h i j k : ℤ) → Holds (a ∷ b ∷ c ∷ d ∷ e ∷ f ∷ g ∷ h ∷ i ∷ j ∷ k ∷ []) (fact (var 0) (var 1) (var 2) (var 3) (var 4) (var 5) (var 6) (var 7) (var 8) (var 9) (var 10))
-ring11 fact same a b c d e f g h i j k = ring (a ∷ b ∷ c ∷ d ∷ e ∷ f ∷ g ∷ h ∷ i ∷ j ∷ k ∷ []) (fact (var 0) (var 1) (var 2) (var 3) (var 4) (var 5) (var 6) (var 7) (var 8) (var 9) (var 10)) same
+pub ring11 : (fact : Expr → Expr → Expr → Expr → Expr → Expr → Expr → Expr → Expr → Expr → Expr → Fact)
+    → Same (fact (var 0) (var 1) (var 2) (var 3) (var 4) (var 5) (var 6) (var 7) (var 8) (var 9) (var 10)) → (a b c d e f g h i j k : ℤ)
+    → Holds (a ∷ b ∷ c ∷ d ∷ e ∷ f ∷ g ∷ h ∷ i ∷ j ∷ k ∷ []) (fact (var 0) (var 1) (var 2) (var 3) (var 4) (var 5) (var 6) (var 7) (var 8) (var 9) (var 10))
+ring11 fact same a b c d e f g h i j k =
+    ring (a ∷ b ∷ c ∷ d ∷ e ∷ f ∷ g ∷ h ∷ i ∷ j ∷ k ∷ []) (fact (var 0) (var 1) (var 2) (var 3) (var 4) (var 5) (var 6) (var 7) (var 8) (var 9) (var 10)) same
 
 -- an identity in 12 variables
-pub ring12 : (fact : Expr → Expr → Expr → Expr → Expr → Expr → Expr → Expr → Expr → Expr → Expr → Expr → Fact) → Same (fact (var 0) (var 1) (var 2) (var 3) (var 4) (var 5) (var 6) (var 7) (var 8) (var 9) (var 10) (var 11)) → (a b c d e f g h i j k l : ℤ) → Holds (a ∷ b ∷ c ∷ d ∷ e ∷ f ∷ g ∷ h ∷ i ∷ j ∷ k ∷ l ∷ []) (fact (var 0) (var 1) (var 2) (var 3) (var 4) (var 5) (var 6) (var 7) (var 8) (var 9) (var 10) (var 11))
-ring12 fact same a b c d e f g h i j k l = ring (a ∷ b ∷ c ∷ d ∷ e ∷ f ∷ g ∷ h ∷ i ∷ j ∷ k ∷ l ∷ []) (fact (var 0) (var 1) (var 2) (var 3) (var 4) (var 5) (var 6) (var 7) (var 8) (var 9) (var 10) (var 11)) same
+pub ring12 : (fact : Expr → Expr → Expr → Expr → Expr → Expr → Expr → Expr → Expr → Expr → Expr → Expr → Fact)
+    → Same (fact (var 0) (var 1) (var 2) (var 3) (var 4) (var 5) (var 6) (var 7) (var 8) (var 9) (var 10) (var 11)) → (a b c d e f g h i j k l : ℤ)
+    → Holds (a ∷ b ∷ c ∷ d ∷ e ∷ f ∷ g ∷ h ∷ i ∷ j ∷ k ∷ l ∷ [])
+    (fact (var 0) (var 1) (var 2) (var 3) (var 4) (var 5) (var 6) (var 7) (var 8) (var 9) (var 10) (var 11))
+ring12 fact same a b c d e f g h i j k l =
+    ring (a ∷ b ∷ c ∷ d ∷ e ∷ f ∷ g ∷ h ∷ i ∷ j ∷ k ∷ l ∷ [])
+    (fact (var 0) (var 1) (var 2) (var 3) (var 4) (var 5) (var 6) (var 7) (var 8) (var 9) (var 10) (var 11)) same
 
 -- a claim in 1 variable
 pub combine1 : (claim : Expr → Claim) → Follows (claim (var 0)) → (a : ℤ) → ClaimHolds (a ∷ []) (claim (var 0))
@@ -248,41 +271,65 @@ pub combine2 : (claim : Expr → Expr → Claim) → Follows (claim (var 0) (var
 combine2 claim follows a b = combine (a ∷ b ∷ []) (claim (var 0) (var 1)) follows
 
 -- a claim in 3 variables
-pub combine3 : (claim : Expr → Expr → Expr → Claim) → Follows (claim (var 0) (var 1) (var 2)) → (a b c : ℤ) → ClaimHolds (a ∷ b ∷ c ∷ []) (claim (var 0) (var 1) (var 2))
+pub combine3 : (claim : Expr → Expr → Expr → Claim) → Follows (claim (var 0) (var 1) (var 2)) → (a b c : ℤ)
+    → ClaimHolds (a ∷ b ∷ c ∷ []) (claim (var 0) (var 1) (var 2))
 combine3 claim follows a b c = combine (a ∷ b ∷ c ∷ []) (claim (var 0) (var 1) (var 2)) follows
 
 -- a claim in 4 variables
-pub combine4 : (claim : Expr → Expr → Expr → Expr → Claim) → Follows (claim (var 0) (var 1) (var 2) (var 3)) → (a b c d : ℤ) → ClaimHolds (a ∷ b ∷ c ∷ d ∷ []) (claim (var 0) (var 1) (var 2) (var 3))
+pub combine4 : (claim : Expr → Expr → Expr → Expr → Claim) → Follows (claim (var 0) (var 1) (var 2) (var 3)) → (a b c d : ℤ)
+    → ClaimHolds (a ∷ b ∷ c ∷ d ∷ []) (claim (var 0) (var 1) (var 2) (var 3))
 combine4 claim follows a b c d = combine (a ∷ b ∷ c ∷ d ∷ []) (claim (var 0) (var 1) (var 2) (var 3)) follows
 
 -- a claim in 5 variables
-pub combine5 : (claim : Expr → Expr → Expr → Expr → Expr → Claim) → Follows (claim (var 0) (var 1) (var 2) (var 3) (var 4)) → (a b c d e : ℤ) → ClaimHolds (a ∷ b ∷ c ∷ d ∷ e ∷ []) (claim (var 0) (var 1) (var 2) (var 3) (var 4))
+pub combine5 : (claim : Expr → Expr → Expr → Expr → Expr → Claim) → Follows (claim (var 0) (var 1) (var 2) (var 3) (var 4)) → (a b c d e : ℤ)
+    → ClaimHolds (a ∷ b ∷ c ∷ d ∷ e ∷ []) (claim (var 0) (var 1) (var 2) (var 3) (var 4))
 combine5 claim follows a b c d e = combine (a ∷ b ∷ c ∷ d ∷ e ∷ []) (claim (var 0) (var 1) (var 2) (var 3) (var 4)) follows
 
 -- a claim in 6 variables
-pub combine6 : (claim : Expr → Expr → Expr → Expr → Expr → Expr → Claim) → Follows (claim (var 0) (var 1) (var 2) (var 3) (var 4) (var 5)) → (a b c d e f : ℤ) → ClaimHolds (a ∷ b ∷ c ∷ d ∷ e ∷ f ∷ []) (claim (var 0) (var 1) (var 2) (var 3) (var 4) (var 5))
+pub combine6 : (claim : Expr → Expr → Expr → Expr → Expr → Expr → Claim) → Follows (claim (var 0) (var 1) (var 2) (var 3) (var 4) (var 5)) → (a b c d e f : ℤ)
+    → ClaimHolds (a ∷ b ∷ c ∷ d ∷ e ∷ f ∷ []) (claim (var 0) (var 1) (var 2) (var 3) (var 4) (var 5))
 combine6 claim follows a b c d e f = combine (a ∷ b ∷ c ∷ d ∷ e ∷ f ∷ []) (claim (var 0) (var 1) (var 2) (var 3) (var 4) (var 5)) follows
 
 -- a claim in 7 variables
-pub combine7 : (claim : Expr → Expr → Expr → Expr → Expr → Expr → Expr → Claim) → Follows (claim (var 0) (var 1) (var 2) (var 3) (var 4) (var 5) (var 6)) → (a b c d e f g : ℤ) → ClaimHolds (a ∷ b ∷ c ∷ d ∷ e ∷ f ∷ g ∷ []) (claim (var 0) (var 1) (var 2) (var 3) (var 4) (var 5) (var 6))
+pub combine7 : (claim : Expr → Expr → Expr → Expr → Expr → Expr → Expr → Claim) → Follows (claim (var 0) (var 1) (var 2) (var 3) (var 4) (var 5) (var 6))
+    → (a b c d e f g : ℤ) → ClaimHolds (a ∷ b ∷ c ∷ d ∷ e ∷ f ∷ g ∷ []) (claim (var 0) (var 1) (var 2) (var 3) (var 4) (var 5) (var 6))
 combine7 claim follows a b c d e f g = combine (a ∷ b ∷ c ∷ d ∷ e ∷ f ∷ g ∷ []) (claim (var 0) (var 1) (var 2) (var 3) (var 4) (var 5) (var 6)) follows
 
 -- a claim in 8 variables
-pub combine8 : (claim : Expr → Expr → Expr → Expr → Expr → Expr → Expr → Expr → Claim) → Follows (claim (var 0) (var 1) (var 2) (var 3) (var 4) (var 5) (var 6) (var 7)) → (a b c d e f g h : ℤ) → ClaimHolds (a ∷ b ∷ c ∷ d ∷ e ∷ f ∷ g ∷ h ∷ []) (claim (var 0) (var 1) (var 2) (var 3) (var 4) (var 5) (var 6) (var 7))
-combine8 claim follows a b c d e f g h = combine (a ∷ b ∷ c ∷ d ∷ e ∷ f ∷ g ∷ h ∷ []) (claim (var 0) (var 1) (var 2) (var 3) (var 4) (var 5) (var 6) (var 7)) follows
+pub combine8 : (claim : Expr → Expr → Expr → Expr → Expr → Expr → Expr → Expr → Claim)
+    → Follows (claim (var 0) (var 1) (var 2) (var 3) (var 4) (var 5) (var 6) (var 7)) → (a b c d e f g h : ℤ)
+    → ClaimHolds (a ∷ b ∷ c ∷ d ∷ e ∷ f ∷ g ∷ h ∷ []) (claim (var 0) (var 1) (var 2) (var 3) (var 4) (var 5) (var 6) (var 7))
+combine8 claim follows a b c d e f g h =
+    combine (a ∷ b ∷ c ∷ d ∷ e ∷ f ∷ g ∷ h ∷ []) (claim (var 0) (var 1) (var 2) (var 3) (var 4) (var 5) (var 6) (var 7)) follows
 
 -- a claim in 9 variables
-pub combine9 : (claim : Expr → Expr → Expr → Expr → Expr → Expr → Expr → Expr → Expr → Claim) → Follows (claim (var 0) (var 1) (var 2) (var 3) (var 4) (var 5) (var 6) (var 7) (var 8)) → (a b c d e f g h i : ℤ) → ClaimHolds (a ∷ b ∷ c ∷ d ∷ e ∷ f ∷ g ∷ h ∷ i ∷ []) (claim (var 0) (var 1) (var 2) (var 3) (var 4) (var 5) (var 6) (var 7) (var 8))
-combine9 claim follows a b c d e f g h i = combine (a ∷ b ∷ c ∷ d ∷ e ∷ f ∷ g ∷ h ∷ i ∷ []) (claim (var 0) (var 1) (var 2) (var 3) (var 4) (var 5) (var 6) (var 7) (var 8)) follows
+pub combine9 : (claim : Expr → Expr → Expr → Expr → Expr → Expr → Expr → Expr → Expr → Claim)
+    → Follows (claim (var 0) (var 1) (var 2) (var 3) (var 4) (var 5) (var 6) (var 7) (var 8)) → (a b c d e f g h i : ℤ)
+    → ClaimHolds (a ∷ b ∷ c ∷ d ∷ e ∷ f ∷ g ∷ h ∷ i ∷ []) (claim (var 0) (var 1) (var 2) (var 3) (var 4) (var 5) (var 6) (var 7) (var 8))
+combine9 claim follows a b c d e f g h i =
+    combine (a ∷ b ∷ c ∷ d ∷ e ∷ f ∷ g ∷ h ∷ i ∷ []) (claim (var 0) (var 1) (var 2) (var 3) (var 4) (var 5) (var 6) (var 7) (var 8)) follows
 
 -- a claim in 10 variables
-pub combine10 : (claim : Expr → Expr → Expr → Expr → Expr → Expr → Expr → Expr → Expr → Expr → Claim) → Follows (claim (var 0) (var 1) (var 2) (var 3) (var 4) (var 5) (var 6) (var 7) (var 8) (var 9)) → (a b c d e f g h i j : ℤ) → ClaimHolds (a ∷ b ∷ c ∷ d ∷ e ∷ f ∷ g ∷ h ∷ i ∷ j ∷ []) (claim (var 0) (var 1) (var 2) (var 3) (var 4) (var 5) (var 6) (var 7) (var 8) (var 9))
-combine10 claim follows a b c d e f g h i j = combine (a ∷ b ∷ c ∷ d ∷ e ∷ f ∷ g ∷ h ∷ i ∷ j ∷ []) (claim (var 0) (var 1) (var 2) (var 3) (var 4) (var 5) (var 6) (var 7) (var 8) (var 9)) follows
+pub combine10 : (claim : Expr → Expr → Expr → Expr → Expr → Expr → Expr → Expr → Expr → Expr → Claim)
+    → Follows (claim (var 0) (var 1) (var 2) (var 3) (var 4) (var 5) (var 6) (var 7) (var 8) (var 9)) → (a b c d e f g h i j : ℤ)
+    → ClaimHolds (a ∷ b ∷ c ∷ d ∷ e ∷ f ∷ g ∷ h ∷ i ∷ j ∷ []) (claim (var 0) (var 1) (var 2) (var 3) (var 4) (var 5) (var 6) (var 7) (var 8) (var 9))
+combine10 claim follows a b c d e f g h i j =
+    combine (a ∷ b ∷ c ∷ d ∷ e ∷ f ∷ g ∷ h ∷ i ∷ j ∷ []) (claim (var 0) (var 1) (var 2) (var 3) (var 4) (var 5) (var 6) (var 7) (var 8) (var 9)) follows
 
 -- a claim in 11 variables
-pub combine11 : (claim : Expr → Expr → Expr → Expr → Expr → Expr → Expr → Expr → Expr → Expr → Expr → Claim) → Follows (claim (var 0) (var 1) (var 2) (var 3) (var 4) (var 5) (var 6) (var 7) (var 8) (var 9) (var 10)) → (a b c d e f g h i j k : ℤ) → ClaimHolds (a ∷ b ∷ c ∷ d ∷ e ∷ f ∷ g ∷ h ∷ i ∷ j ∷ k ∷ []) (claim (var 0) (var 1) (var 2) (var 3) (var 4) (var 5) (var 6) (var 7) (var 8) (var 9) (var 10))
-combine11 claim follows a b c d e f g h i j k = combine (a ∷ b ∷ c ∷ d ∷ e ∷ f ∷ g ∷ h ∷ i ∷ j ∷ k ∷ []) (claim (var 0) (var 1) (var 2) (var 3) (var 4) (var 5) (var 6) (var 7) (var 8) (var 9) (var 10)) follows
+pub combine11 : (claim : Expr → Expr → Expr → Expr → Expr → Expr → Expr → Expr → Expr → Expr → Expr → Claim)
+    → Follows (claim (var 0) (var 1) (var 2) (var 3) (var 4) (var 5) (var 6) (var 7) (var 8) (var 9) (var 10)) → (a b c d e f g h i j k : ℤ)
+    → ClaimHolds (a ∷ b ∷ c ∷ d ∷ e ∷ f ∷ g ∷ h ∷ i ∷ j ∷ k ∷ [])
+    (claim (var 0) (var 1) (var 2) (var 3) (var 4) (var 5) (var 6) (var 7) (var 8) (var 9) (var 10))
+combine11 claim follows a b c d e f g h i j k =
+    combine (a ∷ b ∷ c ∷ d ∷ e ∷ f ∷ g ∷ h ∷ i ∷ j ∷ k ∷ [])
+    (claim (var 0) (var 1) (var 2) (var 3) (var 4) (var 5) (var 6) (var 7) (var 8) (var 9) (var 10)) follows
 
 -- a claim in 12 variables
-pub combine12 : (claim : Expr → Expr → Expr → Expr → Expr → Expr → Expr → Expr → Expr → Expr → Expr → Expr → Claim) → Follows (claim (var 0) (var 1) (var 2) (var 3) (var 4) (var 5) (var 6) (var 7) (var 8) (var 9) (var 10) (var 11)) → (a b c d e f g h i j k l : ℤ) → ClaimHolds (a ∷ b ∷ c ∷ d ∷ e ∷ f ∷ g ∷ h ∷ i ∷ j ∷ k ∷ l ∷ []) (claim (var 0) (var 1) (var 2) (var 3) (var 4) (var 5) (var 6) (var 7) (var 8) (var 9) (var 10) (var 11))
-combine12 claim follows a b c d e f g h i j k l = combine (a ∷ b ∷ c ∷ d ∷ e ∷ f ∷ g ∷ h ∷ i ∷ j ∷ k ∷ l ∷ []) (claim (var 0) (var 1) (var 2) (var 3) (var 4) (var 5) (var 6) (var 7) (var 8) (var 9) (var 10) (var 11)) follows
+pub combine12 : (claim : Expr → Expr → Expr → Expr → Expr → Expr → Expr → Expr → Expr → Expr → Expr → Expr → Claim)
+    → Follows (claim (var 0) (var 1) (var 2) (var 3) (var 4) (var 5) (var 6) (var 7) (var 8) (var 9) (var 10) (var 11)) → (a b c d e f g h i j k l : ℤ)
+    → ClaimHolds (a ∷ b ∷ c ∷ d ∷ e ∷ f ∷ g ∷ h ∷ i ∷ j ∷ k ∷ l ∷ [])
+    (claim (var 0) (var 1) (var 2) (var 3) (var 4) (var 5) (var 6) (var 7) (var 8) (var 9) (var 10) (var 11))
+combine12 claim follows a b c d e f g h i j k l =
+    combine (a ∷ b ∷ c ∷ d ∷ e ∷ f ∷ g ∷ h ∷ i ∷ j ∷ k ∷ l ∷ [])
+    (claim (var 0) (var 1) (var 2) (var 3) (var 4) (var 5) (var 6) (var 7) (var 8) (var 9) (var 10) (var 11)) follows

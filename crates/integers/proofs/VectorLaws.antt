@@ -65,14 +65,17 @@ get_or-add (x ∷ xs) (y ∷ ys) (suc i) = get_or-add xs ys i
 -- of a row step
 pub get_or-row_step : (p q : ℤ) (xs ys : List ℤ) (i : ℕ) → get_or (row_step p q xs ys) i (pos 0) ≡ p *ℤ get_or xs i (pos 0) -ℤ q *ℤ get_or ys i (pos 0)
 get_or-row_step p q xs ys i =
-    let apart = ap (λ zs. get_or zs i (pos 0)) (row_step_lem p q xs ys) ∙ get_or-add (scale p xs) (scale (neg_ℤ q) ys) i ∙ ap₂ (λ a b. a +ℤ b) (get_or-scale p xs i) (get_or-scale (neg_ℤ q) ys i) in
+    let apart =
+    ap (λ zs. get_or zs i (pos 0)) (row_step_lem p q xs ys) ∙ get_or-add (scale p xs) (scale (neg_ℤ q) ys) i
+    ∙ ap₂ (λ a b. a +ℤ b) (get_or-scale p xs i) (get_or-scale (neg_ℤ q) ys i) in
     apart ∙ ring4 (λ p q d e. p ⊗ d ⊕ neg q ⊗ e ≗ p ⊗ d ⊖ q ⊗ e) refl p q (get_or xs i (pos 0)) (get_or ys i (pos 0))
 
 -- a number of a weighted sum is the weights' product with a column
 pub get_or-weighted_sum : (ys : List ℤ) (rows : List (List ℤ)) (j : ℕ) → get_or (weighted_sum ys rows) j (pos 0) ≡ dot ys (column_of j rows)
 get_or-weighted_sum [] rows j = refl
 get_or-weighted_sum (y ∷ ys) [] j = refl
-get_or-weighted_sum (y ∷ ys) (row ∷ rows) j = get_or-add (scale y row) (weighted_sum ys rows) j ∙ ap₂ (λ a b. a +ℤ b) (get_or-scale y row j) (get_or-weighted_sum ys rows j)
+get_or-weighted_sum (y ∷ ys) (row ∷ rows) j =
+    get_or-add (scale y row) (weighted_sum ys rows) j ∙ ap₂ (λ a b. a +ℤ b) (get_or-scale y row j) (get_or-weighted_sum ys rows j)
 
 -- of a column: a number of a row
 pub get_or-column_of : (j : ℕ) (rows : List (List ℤ)) (i : ℕ) → get_or (column_of j rows) i (pos 0) ≡ get_or (get_or rows i []) j (pos 0)
@@ -143,22 +146,28 @@ pub scale_cancel : (c : ℤ) (xs ys : List ℤ) → pos 0 <ℤ c → scale c xs 
 scale_cancel c [] [] p e = refl
 scale_cancel c [] (y ∷ ys) p e = absurd (cons≢nil (sym e))
 scale_cancel c (x ∷ xs) [] p e = absurd (cons≢nil e)
-scale_cancel c (x ∷ xs) (y ∷ ys) p e = ap₂ (λ a b. a ∷ b) (cancel_eq x y c p (*ℤ_comm x c ∙ head-eq_of_cons-eq e ∙ *ℤ_comm c y)) (scale_cancel c xs ys p (tail-eq_of_cons-eq e))
+scale_cancel c (x ∷ xs) (y ∷ ys) p e =
+    ap₂ (λ a b. a ∷ b) (cancel_eq x y c p (*ℤ_comm x c ∙ head-eq_of_cons-eq e ∙ *ℤ_comm c y)) (scale_cancel c xs ys p (tail-eq_of_cons-eq e))
 
 -- a row step from a multiple of each row
 pub row_step-scale : (p q c : ℤ) (xs ys : List ℤ) → row_step p q (scale c xs) (scale c ys) ≡ scale c (row_step p q xs ys)
 row_step-scale p q c xs ys =
-    let left : (z : ℤ) (zs : List ℤ) → scale z (scale c zs) ≡ scale c (scale z zs) = λ z zs. scale-scale z c zs ∙ ap (λ d. scale d zs) (*ℤ_comm z c) ∙ sym (scale-scale c z zs) in
-    row_step_lem p q (scale c xs) (scale c ys) ∙ ap₂ add (left p xs) (left (neg_ℤ q) ys) ∙ sym (scale-add c (scale p xs) (scale (neg_ℤ q) ys)) ∙ ap (scale c) (sym (row_step_lem p q xs ys))
+    let left : (z : ℤ) (zs : List ℤ) → scale z (scale c zs) ≡ scale c (scale z zs) =
+    λ z zs. scale-scale z c zs ∙ ap (λ d. scale d zs) (*ℤ_comm z c) ∙ sym (scale-scale c z zs) in
+    row_step_lem p q (scale c xs) (scale c ys) ∙ ap₂ add (left p xs) (left (neg_ℤ q) ys) ∙ sym (scale-add c (scale p xs) (scale (neg_ℤ q) ys))
+    ∙ ap (scale c) (sym (row_step_lem p q xs ys))
 
 -- a multiple of a row step takes both factors as often
 pub scale-row_step : (c p q : ℤ) (xs ys : List ℤ) → scale c (row_step p q xs ys) ≡ row_step (p *ℤ c) (q *ℤ c) xs ys
 scale-row_step c p q [] ys = scale-scale c (neg_ℤ q) ys ∙ ap (λ z. scale z ys) (ring2 (λ c q. c ⊗ neg q ≗ neg (q ⊗ c)) refl c q)
-scale-row_step c p q (x ∷ xs) [] = ap₂ (λ z zs. z ∷ zs) (ring3 (λ c p x. c ⊗ (p ⊗ x) ≗ (p ⊗ c) ⊗ x) refl c p x) (scale-scale c p xs ∙ ap (λ z. scale z xs) (*ℤ_comm c p))
-scale-row_step c p q (x ∷ xs) (y ∷ ys) = ap₂ (λ z zs. z ∷ zs) (ring5 (λ c p q x y. c ⊗ (p ⊗ x ⊖ q ⊗ y) ≗ (p ⊗ c) ⊗ x ⊖ (q ⊗ c) ⊗ y) refl c p q x y) (scale-row_step c p q xs ys)
+scale-row_step c p q (x ∷ xs) [] =
+    ap₂ (λ z zs. z ∷ zs) (ring3 (λ c p x. c ⊗ (p ⊗ x) ≗ (p ⊗ c) ⊗ x) refl c p x) (scale-scale c p xs ∙ ap (λ z. scale z xs) (*ℤ_comm c p))
+scale-row_step c p q (x ∷ xs) (y ∷ ys) =
+    ap₂ (λ z zs. z ∷ zs) (ring5 (λ c p q x y. c ⊗ (p ⊗ x ⊖ q ⊗ y) ≗ (p ⊗ c) ⊗ x ⊖ (q ⊗ c) ⊗ y) refl c p q x y) (scale-row_step c p q xs ys)
 
 -- the row step with 0 and with a number of the other sign in one place has the number's multiple there
-pub row_step-set : (p q : ℤ) (xs ys : List ℤ) (e : ℕ) (y : ℤ) → length xs ≡ length ys → e < length xs → row_step p q (set xs e (pos 0)) (set ys e (neg_ℤ y)) ≡ set (row_step p q xs ys) e (q *ℤ y)
+pub row_step-set : (p q : ℤ) (xs ys : List ℤ) (e : ℕ) (y : ℤ) → length xs ≡ length ys → e < length xs
+    → row_step p q (set xs e (pos 0)) (set ys e (neg_ℤ y)) ≡ set (row_step p q xs ys) e (q *ℤ y)
 row_step-set p q [] ys e y same h = absurd (omega arith)
 row_step-set p q (a ∷ xs) [] e y same h = absurd (omega arith)
 row_step-set p q (a ∷ xs) (b ∷ ys) zero y same h = ap (λ z. z ∷ row_step p q xs ys) (ring3 (λ p q y. p ⊗ con (pos 0) ⊖ q ⊗ neg y ≗ q ⊗ y) refl p q y)
@@ -171,20 +180,24 @@ scale_sum c d (x ∷ xs) = ap₂ (λ a b. a ∷ b) (+ℤ-*ℤ c d x) (scale_sum 
 
 -- the two middle lists of a sum of sums change places
 pub add_swap : (xs ys us vs : List ℤ) → add (add xs ys) (add us vs) ≡ add (add xs us) (add ys vs)
-add_swap xs ys us vs = add_assoc xs ys (add us vs) ∙ ap (add xs) (sym (add_assoc ys us vs) ∙ ap (λ zs. add zs vs) (add_comm ys us) ∙ add_assoc us ys vs) ∙ sym (add_assoc xs us (add ys vs))
+add_swap xs ys us vs =
+    add_assoc xs ys (add us vs) ∙ ap (add xs) (sym (add_assoc ys us vs) ∙ ap (λ zs. add zs vs) (add_comm ys us) ∙ add_assoc us ys vs)
+    ∙ sym (add_assoc xs us (add ys vs))
 
 -- a factor of all weights comes out
 pub weighted_sum-scale : (c : ℤ) (ys : List ℤ) (rows : List (List ℤ)) → weighted_sum (scale c ys) rows ≡ scale c (weighted_sum ys rows)
 weighted_sum-scale c [] rows = refl
 weighted_sum-scale c (y ∷ ys) [] = refl
-weighted_sum-scale c (y ∷ ys) (row ∷ rows) = ap₂ add (sym (scale-scale c y row)) (weighted_sum-scale c ys rows) ∙ sym (scale-add c (scale y row) (weighted_sum ys rows))
+weighted_sum-scale c (y ∷ ys) (row ∷ rows) =
+    ap₂ add (sym (scale-scale c y row)) (weighted_sum-scale c ys rows) ∙ sym (scale-add c (scale y row) (weighted_sum ys rows))
 
 -- a sum of weights comes apart
 pub weighted_sum-add : (ys zs : List ℤ) (rows : List (List ℤ)) → weighted_sum (add ys zs) rows ≡ add (weighted_sum ys rows) (weighted_sum zs rows)
 weighted_sum-add [] zs rows = refl
 weighted_sum-add (y ∷ ys) [] rows = sym (add-nil (weighted_sum (y ∷ ys) rows))
 weighted_sum-add (y ∷ ys) (z ∷ zs) [] = refl
-weighted_sum-add (y ∷ ys) (z ∷ zs) (row ∷ rows) = ap₂ add (scale_sum y z row) (weighted_sum-add ys zs rows) ∙ add_swap (scale y row) (scale z row) (weighted_sum ys rows) (weighted_sum zs rows)
+weighted_sum-add (y ∷ ys) (z ∷ zs) (row ∷ rows) =
+    ap₂ add (scale_sum y z row) (weighted_sum-add ys zs rows) ∙ add_swap (scale y row) (scale z row) (weighted_sum ys rows) (weighted_sum zs rows)
 
 -- ---- sums
 
@@ -220,10 +233,12 @@ pub dot-split : (i : ℕ) (xs us : List ℤ) → dot xs us ≡ dot (take i xs) (
 dot-split zero xs us = sym (+ℤ_idl (dot xs us))
 dot-split (suc i) [] us = refl
 dot-split (suc i) (x ∷ xs) [] = sym (+ℤ_idl (dot (drop i xs) []) ∙ dot-nil (drop i xs))
-dot-split (suc i) (x ∷ xs) (u ∷ us) = ap (λ z. x *ℤ u +ℤ z) (dot-split i xs us) ∙ sym (+ℤ_assoc (x *ℤ u) (dot (take i xs) (take i us)) (dot (drop i xs) (drop i us)))
+dot-split (suc i) (x ∷ xs) (u ∷ us) =
+    ap (λ z. x *ℤ u +ℤ z) (dot-split i xs us) ∙ sym (+ℤ_assoc (x *ℤ u) (dot (take i xs) (take i us)) (dot (drop i xs) (drop i us)))
 
 -- the step of a loop: the product of what is left from the place i on
-pub dot-drop_more : (i : ℕ) (xs us : List ℤ) → i < length xs → i < length us → dot (drop i xs) (drop i us) ≡ get_or xs i (pos 0) *ℤ get_or us i (pos 0) +ℤ dot (drop (i + 1) xs) (drop (i + 1) us)
+pub dot-drop_more : (i : ℕ) (xs us : List ℤ) → i < length xs → i < length us
+    → dot (drop i xs) (drop i us) ≡ get_or xs i (pos 0) *ℤ get_or us i (pos 0) +ℤ dot (drop (i + 1) xs) (drop (i + 1) us)
 dot-drop_more i xs us h k = rw (add-one, drop-cons xs i (pos 0), drop-cons us i (pos 0))
 
 -- the step of a loop: the sum of what is left

@@ -23,7 +23,9 @@ below_length (u ∷ us) (suc e) h = let k = below_length us e h in omega arith
 
 -- the opposites of numbers that are not positive are not negative
 pub opposites_nonneg : (xs : List ℤ) → ((f : ℕ) → get_or xs f (pos 0) ≤ℤ pos 0) → AreNonNegative (scale (negsuc 0) xs)
-opposites_nonneg xs h = All-from_get_or (λ x. pos 0 ≤ℤ x) (scale (negsuc 0) xs) (pos 0) (λ f l. let e = get_or-scale (negsuc 0) xs f in let k = h f in omega (arith, lin, minus_one-*ℤ (get_or xs f (pos 0))))
+opposites_nonneg xs h =
+    All-from_get_or (λ x. pos 0 ≤ℤ x) (scale (negsuc 0) xs) (pos 0)
+    (λ f l. let e = get_or-scale (negsuc 0) xs f in let k = h f in omega (arith, lin, minus_one-*ℤ (get_or xs f (pos 0))))
 
 -- the product of lists of numbers at least 0 is at least 0
 pub dot_nonneg : (xs us : List ℤ) → AreNonNegative xs → AreNonNegative us → pos 0 ≤ℤ dot xs us
@@ -58,7 +60,8 @@ pub dot_le_right : (us xs ys : List ℤ) → AreAtMost xs ys → AreNonNegative 
 dot_le_right us xs ys h q = subst₂ (λ a b. a ≤ℤ b) (dot_comm xs us) (dot_comm ys us) (dot_le xs ys us h q)
 
 -- coefficients that are not negative where a number is positive have a product that is positive, or 0 with 0 at each such place
-pub dot_cases : (cs us : List ℤ) → AreNonNegative us → ((e : ℕ) → pos 0 <ℤ get_or us e (pos 0) → pos 0 ≤ℤ get_or cs e (pos 0)) → pos 0 <ℤ dot cs us ⊎ (dot cs us ≡ pos 0) × ((e : ℕ) → pos 0 <ℤ get_or us e (pos 0) → get_or cs e (pos 0) ≡ pos 0)
+pub dot_cases : (cs us : List ℤ) → AreNonNegative us → ((e : ℕ) → pos 0 <ℤ get_or us e (pos 0) → pos 0 ≤ℤ get_or cs e (pos 0))
+    → pos 0 <ℤ dot cs us ⊎ (dot cs us ≡ pos 0) × ((e : ℕ) → pos 0 <ℤ get_or us e (pos 0) → get_or cs e (pos 0) ≡ pos 0)
 dot_cases [] us n h = inr (refl, λ e p. refl)
 dot_cases (c ∷ cs) [] n h = inr (refl, λ e p. absurd (<ℤ_irrefl p))
 dot_cases (c ∷ cs) (u ∷ us) n h = step (lt_cases (pos 0) u) (lt_cases (pos 0) c) (dot_cases cs us (All-tail (λ x. pos 0 ≤ℤ x) u us n) (λ e p. h (suc e) p))
@@ -66,7 +69,9 @@ dot_cases (c ∷ cs) (u ∷ us) n h = step (lt_cases (pos 0) u) (lt_cases (pos 0
     nonneg : pos 0 ≤ℤ u
     nonneg = All-head (λ x. pos 0 ≤ℤ x) u us n
 
-    later : pos 0 <ℤ dot cs us ⊎ (dot cs us ≡ pos 0) × ((e : ℕ) → pos 0 <ℤ get_or us e (pos 0) → get_or cs e (pos 0) ≡ pos 0) → c *ℤ u ≡ pos 0 → (pos 0 <ℤ u → c ≡ pos 0) → pos 0 <ℤ dot (c ∷ cs) (u ∷ us) ⊎ (dot (c ∷ cs) (u ∷ us) ≡ pos 0) × ((e : ℕ) → pos 0 <ℤ get_or (u ∷ us) e (pos 0) → get_or (c ∷ cs) e (pos 0) ≡ pos 0)
+    later : pos 0 <ℤ dot cs us ⊎ (dot cs us ≡ pos 0) × ((e : ℕ) → pos 0 <ℤ get_or us e (pos 0) → get_or cs e (pos 0) ≡ pos 0) → c *ℤ u ≡ pos 0
+        → (pos 0 <ℤ u → c ≡ pos 0) → pos 0 <ℤ dot (c ∷ cs) (u ∷ us) ⊎ (dot (c ∷ cs) (u ∷ us) ≡ pos 0)
+        × ((e : ℕ) → pos 0 <ℤ get_or (u ∷ us) e (pos 0) → get_or (c ∷ cs) e (pos 0) ≡ pos 0)
     later (inl p) z first = inl (omega (arith, lin))
     later (inr r) z first =
         let rest = r.0 in
@@ -76,7 +81,9 @@ dot_cases (c ∷ cs) (u ∷ us) n h = step (lt_cases (pos 0) u) (lt_cases (pos 0
         at zero p = first p
         at (suc e) p = r.1 e p
 
-    step : pos 0 <ℤ u ⊎ (pos 0 ≡ u) ⊎ u <ℤ pos 0 → pos 0 <ℤ c ⊎ (pos 0 ≡ c) ⊎ c <ℤ pos 0 → pos 0 <ℤ dot cs us ⊎ (dot cs us ≡ pos 0) × ((e : ℕ) → pos 0 <ℤ get_or us e (pos 0) → get_or cs e (pos 0) ≡ pos 0) → pos 0 <ℤ dot (c ∷ cs) (u ∷ us) ⊎ (dot (c ∷ cs) (u ∷ us) ≡ pos 0) × ((e : ℕ) → pos 0 <ℤ get_or (u ∷ us) e (pos 0) → get_or (c ∷ cs) e (pos 0) ≡ pos 0)
+    step : pos 0 <ℤ u ⊎ (pos 0 ≡ u) ⊎ u <ℤ pos 0 → pos 0 <ℤ c ⊎ (pos 0 ≡ c) ⊎ c <ℤ pos 0 → pos 0 <ℤ dot cs us ⊎ (dot cs us ≡ pos 0)
+        × ((e : ℕ) → pos 0 <ℤ get_or us e (pos 0) → get_or cs e (pos 0) ≡ pos 0) → pos 0 <ℤ dot (c ∷ cs) (u ∷ us) ⊎ (dot (c ∷ cs) (u ∷ us) ≡ pos 0)
+        × ((e : ℕ) → pos 0 <ℤ get_or (u ∷ us) e (pos 0) → get_or (c ∷ cs) e (pos 0) ≡ pos 0)
     step (inl p) (inl q) (inl r) = let m = mul_pos c u q p in inl (omega (arith, lin))
     step (inl p) (inl q) (inr r) = let m = mul_pos c u q p in let z = r.0 in inl (omega (arith, lin))
     step (inl p) (inr (inl q)) r = later r (ap (λ z. z *ℤ u) (sym q) ∙ zero-*ℤ u) (λ k. sym q)
@@ -113,7 +120,9 @@ AreAtMost-at (x ∷ xs) (y ∷ ys) h (suc i) = AreAtMost-at xs ys h.1 i
 
 -- numbers at most 0 times others are at most 0
 pub none_above_zero : (xs cs : List ℤ) → AreAtMost xs (scale (pos 0) cs) → All (λ c. c ≤ℤ pos 0) xs
-none_above_zero xs cs h = All-from_get_or (λ c. c ≤ℤ pos 0) xs (pos 0) (λ j l. subst (λ z. get_or xs j (pos 0) ≤ℤ z) (get_or-scale (pos 0) cs j ∙ zero-*ℤ (get_or cs j (pos 0))) (AreAtMost-at xs (scale (pos 0) cs) h j))
+none_above_zero xs cs h =
+    All-from_get_or (λ c. c ≤ℤ pos 0) xs (pos 0) (λ j l. subst (λ z. get_or xs j (pos 0) ≤ℤ z) (get_or-scale (pos 0) cs j ∙ zero-*ℤ (get_or cs j (pos 0)))
+    (AreAtMost-at xs (scale (pos 0) cs) h j))
 
 -- from the numbers at each place
 pub AreAtMost-from_at : (xs ys : List ℤ) → ((i : ℕ) → get_or xs i (pos 0) ≤ℤ get_or ys i (pos 0)) → AreAtMost xs ys
@@ -159,7 +168,9 @@ AreAtMost-nil (x ∷ xs) h = (All-head (λ c. c ≤ℤ pos 0) x xs h, AreAtMost-
 
 -- a multiple, by a factor that is not negative
 pub AreAtMost-scale : (c : ℤ) (xs ys : List ℤ) → pos 0 ≤ℤ c → AreAtMost xs ys → AreAtMost (scale c xs) (scale c ys)
-AreAtMost-scale c xs ys p h = AreAtMost-from_at (scale c xs) (scale c ys) (λ i. subst₂ (λ a b. a ≤ℤ b) (*ℤ_comm (get_or xs i (pos 0)) c ∙ sym (get_or-scale c xs i)) (*ℤ_comm (get_or ys i (pos 0)) c ∙ sym (get_or-scale c ys i)) (mul_le (get_or xs i (pos 0)) (get_or ys i (pos 0)) c p (AreAtMost-at xs ys h i)))
+AreAtMost-scale c xs ys p h =
+    AreAtMost-from_at (scale c xs) (scale c ys) (λ i. subst₂ (λ a b. a ≤ℤ b) (*ℤ_comm (get_or xs i (pos 0)) c ∙ sym (get_or-scale c xs i))
+    (*ℤ_comm (get_or ys i (pos 0)) c ∙ sym (get_or-scale c ys i)) (mul_le (get_or xs i (pos 0)) (get_or ys i (pos 0)) c p (AreAtMost-at xs ys h i)))
 
 -- a sum of facts
 pub AreAtMost-add : (xs ys us vs : List ℤ) → AreAtMost xs ys → AreAtMost us vs → AreAtMost (add xs us) (add ys vs)
@@ -182,18 +193,22 @@ int_sum_nonneg xs h = int_sum_le [] xs ((AreNonNegative-at_most xs).0 h)
 -- ---- weak duality
 
 -- A u ≥ b, u ≥ 0, y ≥ 0 and y A ≤ d c give y·b ≤ d (c·u)
-pub weak_duality : (rows : List (List ℤ)) (us bs ys cs : List ℤ) (d : ℤ) → AreAtMost bs (dot_each rows us) → AreNonNegative us → AreNonNegative ys → AreAtMost (weighted_sum ys rows) (scale d cs) → dot ys bs ≤ℤ (d *ℤ dot cs us)
+pub weak_duality : (rows : List (List ℤ)) (us bs ys cs : List ℤ) (d : ℤ) → AreAtMost bs (dot_each rows us) → AreNonNegative us → AreNonNegative ys
+    → AreAtMost (weighted_sum ys rows) (scale d cs) → dot ys bs ≤ℤ (d *ℤ dot cs us)
 weak_duality rows us bs ys cs d meets u y below =
     let left = dot_le_right ys bs (dot_each rows us) meets y in
     let right = dot_le (weighted_sum ys rows) (scale d cs) us below u in
     omega (arith, lin, dot-weighted_sum ys rows us, dot-scale d cs us)
 
 -- the same for the point u over n: A u ≥ n b
-pub weak_duality_over : (rows : List (List ℤ)) (us bs ys cs : List ℤ) (n d : ℤ) → AreAtMost (scale n bs) (dot_each rows us) → AreNonNegative us → AreNonNegative ys → AreAtMost (weighted_sum ys rows) (scale d cs) → (n *ℤ dot ys bs) ≤ℤ (d *ℤ dot cs us)
-weak_duality_over rows us bs ys cs n d meets u y below = subst (λ z. z ≤ℤ (d *ℤ dot cs us)) (dot-scale_right n ys bs) (weak_duality rows us (scale n bs) ys cs d meets u y below)
+pub weak_duality_over : (rows : List (List ℤ)) (us bs ys cs : List ℤ) (n d : ℤ) → AreAtMost (scale n bs) (dot_each rows us) → AreNonNegative us
+    → AreNonNegative ys → AreAtMost (weighted_sum ys rows) (scale d cs) → (n *ℤ dot ys bs) ≤ℤ (d *ℤ dot cs us)
+weak_duality_over rows us bs ys cs n d meets u y below =
+    subst (λ z. z ≤ℤ (d *ℤ dot cs us)) (dot-scale_right n ys bs) (weak_duality rows us (scale n bs) ys cs d meets u y below)
 
 -- y ≥ 0, y A ≤ 0 and y·b > 0 refute A u ≥ n b with u ≥ 0 and n > 0
-pub farkas : (rows : List (List ℤ)) (us bs ys : List ℤ) (n : ℤ) → pos 0 <ℤ n → AreNonNegative ys → AreAtMost (weighted_sum ys rows) [] → pos 0 <ℤ dot ys bs → AreAtMost (scale n bs) (dot_each rows us) → AreNonNegative us → ⊥
+pub farkas : (rows : List (List ℤ)) (us bs ys : List ℤ) (n : ℤ) → pos 0 <ℤ n → AreNonNegative ys → AreAtMost (weighted_sum ys rows) [] → pos 0 <ℤ dot ys bs
+    → AreAtMost (scale n bs) (dot_each rows us) → AreNonNegative us → ⊥
 farkas rows us bs ys n p y below above meets u =
     let positive = mul_pos n (dot ys bs) p above in
     let most = weak_duality_over rows us bs ys [] n (pos 1) meets u y below in

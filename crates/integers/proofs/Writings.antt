@@ -1,13 +1,13 @@
 -- Lists of fractions as whole numbers over one denominator: there is a writing, and what holds doesn't depend on which.
 use lib.IntN.{*ℤ_comm, zero-*ℤ}
 use Rattle.std.proofs.lemmas.List.Elements.{All-head, All-tail}
-use Rattle.std.proofs.Common.{◌≡◌, ◌↔◌, ℕ, zero, suc, ◌<◌, length, get_or, List, [], ◌∷◌, ◌++◌, ℤ, pos, ◌+ℤ◌, ◌*ℤ◌, ◌<ℤ◌, refl, sym, ap, subst, subst₂, ◌∙◌, arith}
-use Rattle.integers.specs.Fraction.{Fraction, IsFraction, SameFraction, AreFractions, over, SameFractions, IsWriting, common_den, common_nums, fraction_of, fraction_sum, sum_of_fractions, running_fraction_sums}
+use Rattle.std.proofs.Common.{◌≡◌, ◌↔◌, ℕ, zero, suc, ◌<◌, length, get_or, List, [], ◌∷◌, ◌++◌, ℤ, pos, ◌+ℤ◌, ◌*ℤ◌, ◌<ℤ◌, refl, sym, subst₂, ◌∙◌, arith}
+use Rattle.integers.specs.Fraction.{Fraction, IsFraction, SameFraction, AreFractions, over, SameFractions, IsWriting, common_den, common_nums, fraction_sum, sum_of_fractions, running_fraction_sums}
 use Rattle.integers.specs.Vector.{scale, int_sum, running_sums}
 use Rattle.integers.proofs.Laws.{lin}
 use Rattle.integers.proofs.Order.{mul_pos}
-use Rattle.integers.proofs.Ring.{con, ◌⊕◌, ◌⊗◌, ◌≗◌, ◌✶◌, ◌⇐◌, ring3, combine7}
-use Rattle.integers.proofs.Fractions.{SameFraction-trans, SameFractions-refl, SameFractions-sym, SameFractions-trans, SameFractions-length, length-over, AreFractions-over, SameFractions-over, SameFractions-over_scale}
+use Rattle.integers.proofs.Ring.{◌⊕◌, ◌⊗◌, ◌≗◌, ◌✶◌, ◌⇐◌, ring3, combine7}
+use Rattle.integers.proofs.Fractions.{SameFractions-refl, SameFractions-sym, SameFractions-trans, SameFractions-length, length-over, AreFractions-over, SameFractions-over, SameFractions-over_scale}
 
 -- ---- each list of fractions has a writing
 
@@ -23,10 +23,13 @@ common-same (f ∷ fs) h =
     let rest = All-tail IsFraction f fs h in
     let first = All-head IsFraction f fs h in
     let p = common_den_pos fs rest in
-    let wide = SameFractions-sym (over (common_nums fs) (common_den fs)) (over (scale f.den (common_nums fs)) (f.den *ℤ common_den fs)) (SameFractions-over_scale f.den (common_nums fs) (common_den fs)) in
-    (
+    let wide =
+    SameFractions-sym (over (common_nums fs) (common_den fs)) (over (scale f.den (common_nums fs)) (f.den *ℤ common_den fs))
+    (SameFractions-over_scale f.den (common_nums fs) (common_den fs)) in (
       ring3 (λ a b d. a ⊗ d ⊗ b ≗ a ⊗ (b ⊗ d)) refl f.num f.den (common_den fs),
-      SameFractions-trans (over (scale f.den (common_nums fs)) (f.den *ℤ common_den fs)) (over (common_nums fs) (common_den fs)) fs (AreFractions-over (scale f.den (common_nums fs)) (f.den *ℤ common_den fs) (mul_pos f.den (common_den fs) first p)) (AreFractions-over (common_nums fs) (common_den fs) p) rest wide (common-same fs rest),
+      SameFractions-trans (over (scale f.den (common_nums fs)) (f.den *ℤ common_den fs)) (over (common_nums fs) (common_den fs)) fs
+          (AreFractions-over (scale f.den (common_nums fs)) (f.den *ℤ common_den fs) (mul_pos f.den (common_den fs) first p))
+          (AreFractions-over (common_nums fs) (common_den fs) p) rest wide (common-same fs rest),
     )
 
 -- the numerators over the product of the denominators
@@ -36,15 +39,20 @@ common_writing fs h = record { den_pos = common_den_pos fs h; same = common-same
 -- ---- two writings of one list
 
 -- they name the same numbers
-pub IsWriting-same : (fs : List Fraction) (w : List ℤ) (n : ℤ) (v : List ℤ) (m : ℤ) → AreFractions fs → IsWriting fs w n → IsWriting fs v m → SameFractions (over w n) (over v m)
-IsWriting-same fs w n v m p h k = SameFractions-trans (over w n) fs (over v m) (AreFractions-over w n h.den_pos) p (AreFractions-over v m k.den_pos) h.same (SameFractions-sym (over v m) fs k.same)
+pub IsWriting-same : (fs : List Fraction) (w : List ℤ) (n : ℤ) (v : List ℤ) (m : ℤ) → AreFractions fs → IsWriting fs w n → IsWriting fs v m
+    → SameFractions (over w n) (over v m)
+IsWriting-same fs w n v m p h k =
+    SameFractions-trans (over w n) fs (over v m) (AreFractions-over w n h.den_pos) p (AreFractions-over v m k.den_pos) h.same
+    (SameFractions-sym (over v m) fs k.same)
 
 -- the cross multiples are one list
-pub IsWriting-cross : (fs : List Fraction) (w : List ℤ) (n : ℤ) (v : List ℤ) (m : ℤ) → AreFractions fs → IsWriting fs w n → IsWriting fs v m → scale m w ≡ scale n v
+pub IsWriting-cross : (fs : List Fraction) (w : List ℤ) (n : ℤ) (v : List ℤ) (m : ℤ) → AreFractions fs → IsWriting fs w n → IsWriting fs v m
+    → scale m w ≡ scale n v
 IsWriting-cross fs w n v m p h k = (SameFractions-over w v n m).0 (IsWriting-same fs w n v m p h k)
 
 -- what positive multiples keep holds of each writing where it holds of one
-pub any_writing : (P : List ℤ → ℤ → Type 0) → ((c : ℤ) (w : List ℤ) (n : ℤ) → pos 0 <ℤ c → pos 0 <ℤ n → P w n ↔ P (scale c w) (c *ℤ n)) → (fs : List Fraction) (w : List ℤ) (n : ℤ) (v : List ℤ) (m : ℤ) → AreFractions fs → IsWriting fs w n → IsWriting fs v m → P w n ↔ P v m
+pub any_writing : (P : List ℤ → ℤ → Type 0) → ((c : ℤ) (w : List ℤ) (n : ℤ) → pos 0 <ℤ c → pos 0 <ℤ n → P w n ↔ P (scale c w) (c *ℤ n))
+    → (fs : List Fraction) (w : List ℤ) (n : ℤ) (v : List ℤ) (m : ℤ) → AreFractions fs → IsWriting fs w n → IsWriting fs v m → P w n ↔ P v m
 any_writing P keeps fs w n v m p h k = (step w n v m h.den_pos k.den_pos cross, step v m w n k.den_pos h.den_pos (sym cross))
   where
     cross : scale m w ≡ scale n v
@@ -63,19 +71,24 @@ IsWriting-over w n p = record { den_pos = p; same = SameFractions-refl (over w n
 pub IsWriting-scale : (c : ℤ) (fs : List Fraction) (w : List ℤ) (n : ℤ) → pos 0 <ℤ c → AreFractions fs → IsWriting fs w n → IsWriting fs (scale c w) (c *ℤ n)
 IsWriting-scale c fs w n pc p h = record {
   den_pos = mul_pos c n pc h.den_pos;
-  same = SameFractions-trans (over (scale c w) (c *ℤ n)) (over w n) fs (AreFractions-over (scale c w) (c *ℤ n) (mul_pos c n pc h.den_pos)) (AreFractions-over w n h.den_pos) p (SameFractions-sym (over w n) (over (scale c w) (c *ℤ n)) (SameFractions-over_scale c w n)) h.same;
+  same =
+      SameFractions-trans (over (scale c w) (c *ℤ n)) (over w n) fs (AreFractions-over (scale c w) (c *ℤ n) (mul_pos c n pc h.den_pos))
+      (AreFractions-over w n h.den_pos) p (SameFractions-sym (over w n) (over (scale c w) (c *ℤ n)) (SameFractions-over_scale c w n)) h.same;
 }
 
 -- of the same fractions
-pub IsWriting-respects : (fs gs : List Fraction) (w : List ℤ) (n : ℤ) → AreFractions fs → AreFractions gs → SameFractions fs gs → IsWriting fs w n → IsWriting gs w n
-IsWriting-respects fs gs w n pf pg s h = record { den_pos = h.den_pos; same = SameFractions-trans (over w n) fs gs (AreFractions-over w n h.den_pos) pf pg h.same s }
+pub IsWriting-respects : (fs gs : List Fraction) (w : List ℤ) (n : ℤ) → AreFractions fs → AreFractions gs → SameFractions fs gs → IsWriting fs w n
+    → IsWriting gs w n
+IsWriting-respects fs gs w n pf pg s h =
+    record { den_pos = h.den_pos; same = SameFractions-trans (over w n) fs gs (AreFractions-over w n h.den_pos) pf pg h.same s }
 
 -- as many numbers as fractions
 pub IsWriting-length : (fs : List Fraction) (w : List ℤ) (n : ℤ) → IsWriting fs w n → length w ≡ length fs
 IsWriting-length fs w n h = sym (length-over w n) ∙ SameFractions-length (over w n) fs h.same
 
 -- one more fraction in front
-pub IsWriting-cons : (f : Fraction) (fs : List Fraction) (x : ℤ) (w : List ℤ) (n : ℤ) → IsWriting (f ∷ fs) (x ∷ w) n ↔ SameFraction (record { num = x; den = n }) f × IsWriting fs w n
+pub IsWriting-cons : (f : Fraction) (fs : List Fraction) (x : ℤ) (w : List ℤ) (n : ℤ) → IsWriting (f ∷ fs) (x ∷ w) n
+    ↔ SameFraction (record { num = x; den = n }) f × IsWriting fs w n
 IsWriting-cons f fs x w n = (λ h. (h.same.0, record { den_pos = h.den_pos; same = h.same.1 }), λ h. record { den_pos = h.1.den_pos; same = (h.0, h.1.same) })
 
 -- two lists, one after the other, over one denominator
@@ -89,10 +102,12 @@ IsWriting-append fs gs w v n h k = record { den_pos = h.den_pos; same = both fs 
     both (f ∷ fs) (x ∷ w) s = (s.0, both fs w s.1)
 
 -- the number at a place
-pub IsWriting-at : (fs : List Fraction) (w : List ℤ) (n : ℤ) (i : ℕ) (x : ℤ) (d : Fraction) → i < length fs → IsWriting fs w n → SameFraction (record { num = get_or w i x; den = n }) (get_or fs i d)
+pub IsWriting-at : (fs : List Fraction) (w : List ℤ) (n : ℤ) (i : ℕ) (x : ℤ) (d : Fraction) → i < length fs → IsWriting fs w n
+    → SameFraction (record { num = get_or w i x; den = n }) (get_or fs i d)
 IsWriting-at fs w n i x d l h = at fs w i l h.same
   where
-    at : (fs : List Fraction) (w : List ℤ) (i : ℕ) → i < length fs → SameFractions (over w n) fs → SameFraction (record { num = get_or w i x; den = n }) (get_or fs i d)
+    at : (fs : List Fraction) (w : List ℤ) (i : ℕ) → i < length fs → SameFractions (over w n) fs
+        → SameFraction (record { num = get_or w i x; den = n }) (get_or fs i d)
     at [] w i l s = absurd (omega arith)
     at (f ∷ fs) [] i l s = absurd s
     at (f ∷ fs) (y ∷ w) zero l s = s.0
@@ -101,7 +116,8 @@ IsWriting-at fs w n i x d l h = at fs w i l h.same
 -- ---- sums
 
 -- two numbers over one denominator
-sum_over : (x y n : ℤ) (f g : Fraction) → SameFraction (record { num = x; den = n }) f → SameFraction (record { num = y; den = n }) g → SameFraction (record { num = x +ℤ y; den = n }) (fraction_sum f g)
+sum_over : (x y n : ℤ) (f g : Fraction) → SameFraction (record { num = x; den = n }) f → SameFraction (record { num = y; den = n }) g
+    → SameFraction (record { num = x +ℤ y; den = n }) (fraction_sum f g)
 sum_over x y n f g = λ s t. by_parts x y n f.num f.den g.num g.den s t
   where
     by_parts : (x y n a b c d : ℤ) → x *ℤ b ≡ a *ℤ n → y *ℤ d ≡ c *ℤ n → (x +ℤ y) *ℤ (b *ℤ d) ≡ (a *ℤ d +ℤ c *ℤ b) *ℤ n
@@ -118,10 +134,12 @@ IsWriting-sum fs w n h = sum fs w h.same
     sum (f ∷ fs) (x ∷ w) s = sum_over x (int_sum w) n f (sum_of_fractions fs) s.0 (sum fs w s.1)
 
 -- the running sums
-pub IsWriting-running : (a : Fraction) (z : ℤ) (fs : List Fraction) (w : List ℤ) (n : ℤ) → SameFraction (record { num = z; den = n }) a → IsWriting fs w n → IsWriting (running_fraction_sums a fs) (running_sums z w) n
+pub IsWriting-running : (a : Fraction) (z : ℤ) (fs : List Fraction) (w : List ℤ) (n : ℤ) → SameFraction (record { num = z; den = n }) a → IsWriting fs w n
+    → IsWriting (running_fraction_sums a fs) (running_sums z w) n
 IsWriting-running a z fs w n s h = record { den_pos = h.den_pos; same = run a z fs w s h.same }
   where
-    run : (a : Fraction) (z : ℤ) (fs : List Fraction) (w : List ℤ) → SameFraction (record { num = z; den = n }) a → SameFractions (over w n) fs → SameFractions (over (running_sums z w) n) (running_fraction_sums a fs)
+    run : (a : Fraction) (z : ℤ) (fs : List Fraction) (w : List ℤ) → SameFraction (record { num = z; den = n }) a → SameFractions (over w n) fs
+        → SameFractions (over (running_sums z w) n) (running_fraction_sums a fs)
     run a z [] [] s t = tt
     run a z [] (x ∷ w) s t = absurd t
     run a z (f ∷ fs) [] s t = absurd t

@@ -30,11 +30,14 @@ pub AreZero-add : (xs ys : List ℤ) → AreZero xs → AreZero ys → AreZero (
 AreZero-add [] ys p q = q
 AreZero-add (x ∷ xs) [] p q = p
 AreZero-add (x ∷ xs) (y ∷ ys) p q =
-    AreZero-cons (x +ℤ y) (add xs ys) (ap₂ (λ a b. a +ℤ b) (AreZero-head x xs p) (AreZero-head y ys q)) (AreZero-add xs ys (AreZero-tail x xs p) (AreZero-tail y ys q))
+    AreZero-cons (x +ℤ y) (add xs ys) (ap₂ (λ a b. a +ℤ b) (AreZero-head x xs p) (AreZero-head y ys q))
+    (AreZero-add xs ys (AreZero-tail x xs p) (AreZero-tail y ys q))
 
 -- numbers that are 0 apart from the place e, and there too
 pub AreZero-from_others : (xs : List ℤ) (e : ℕ) → ((j : ℕ) → j < length xs → j ≢ e → get_or xs j (pos 0) ≡ pos 0) → get_or xs e (pos 0) ≡ pos 0 → AreZero xs
-AreZero-from_others xs e others here = All-from_get_or (λ x. x ≡ pos 0) xs (pos 0) (λ j below. elim (cases_eq j e) [ inl is ↦ ap (λ i. get_or xs i (pos 0)) is ∙ here | inr apart ↦ others j below apart ])
+AreZero-from_others xs e others here =
+    All-from_get_or (λ x. x ≡ pos 0) xs (pos 0) (λ j below. elim (cases_eq j e)
+    [ inl is ↦ ap (λ i. get_or xs i (pos 0)) is ∙ here | inr apart ↦ others j below apart ])
 
 -- a product with a list of zeros
 pub dot-AreZero : (xs us : List ℤ) → AreZero us → dot xs us ≡ pos 0
@@ -49,7 +52,8 @@ same_from_difference [] (v ∷ vs) l z = absurd (omega arith)
 same_from_difference (u ∷ us) [] l z = absurd (omega arith)
 same_from_difference (u ∷ us) (v ∷ vs) l z =
     let here = AreZero-head (pos 1 *ℤ u -ℤ pos 1 *ℤ v) (row_step (pos 1) (pos 1) us vs) z in
-    ap₂ (λ a b. a ∷ b) (combine2 (λ u v. u ≗ v ⇐ con (pos 1) ✶ (con (pos 1) ⊗ u ⊖ con (pos 1) ⊗ v ≗ con (pos 0)) ∷ []) refl u v here) (same_from_difference us vs (omega arith) (AreZero-tail (pos 1 *ℤ u -ℤ pos 1 *ℤ v) (row_step (pos 1) (pos 1) us vs) z))
+    ap₂ (λ a b. a ∷ b) (combine2 (λ u v. u ≗ v ⇐ con (pos 1) ✶ (con (pos 1) ⊗ u ⊖ con (pos 1) ⊗ v ≗ con (pos 0)) ∷ []) refl u v here)
+    (same_from_difference us vs (omega arith) (AreZero-tail (pos 1 *ℤ u -ℤ pos 1 *ℤ v) (row_step (pos 1) (pos 1) us vs) z))
 
 -- ---- so many zeros
 

@@ -1,4 +1,5 @@
-//! The algebra of whole numbers: a theory that proofs stand on, and a few of its facts as tests in code.
+//! The algebra of whole numbers: a theory that proofs stand on, and a few of its facts as tests in
+//! code.
 #![tactic(auto)]
 
 ghost use Rattle.integers.specs.Divisibility.{AreCoprime};
@@ -7,8 +8,8 @@ ghost use Rattle.std.specs.Prelude.{◌≡◌, ◌↔◌, ◌*ℤ◌, IsTrue};
 
 pub mod number_laws;
 
-/// Whether `a / b` and `c / d` are one number, by cross products. Both denominators are meant to be other
-/// than 0.
+/// Whether `a / b` and `c / d` are one number, by cross products. Both denominators are meant to be
+/// other than 0.
 pub fn is_same_fraction(a: i64, b: i64, c: i64, d: i64) -> bool
     ensures { IsTrue result ↔ (a *ℤ d ≡ c *ℤ b) }
 {

@@ -22,7 +22,7 @@ pub fn fractions_have_a_writing()
         → IsWriting fs (common_nums fs) (common_den fs) }
 {}
 
-/// States that two writings of one list name the same numbers, and have one list of cross multiples.
+/// States that two writings of one list name the same numbers and have one list of cross multiples.
 pub fn writings_agree()
     ensures same { (fs : List Fraction) (w : List ℤ) (n : ℤ) (v : List ℤ) (m : ℤ)
         → AreFractions fs → IsWriting fs w n → IsWriting fs v m
@@ -48,7 +48,8 @@ pub fn weighted_sums()
         → get_or (weighted_sum ys rows) j (pos 0) ≡ dot ys (column_of j rows) }
 {}
 
-/// States that the choices of k of n numbers are all rising lists of k numbers below n, and counts them.
+/// States that the choices of k of n numbers are all rising lists of k numbers below n, and counts
+/// them.
 pub fn choices_are_counted()
     ensures members { (n k : ℕ) (xs : List ℕ) → Contains (choices n k) xs
         ↔ (IsStrictlyIncreasing xs × All (λ x. x < n) xs × (length xs ≡ k)) }

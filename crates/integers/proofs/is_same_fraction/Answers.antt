@@ -17,4 +17,5 @@ pub returns : goal.returns
 returns c =
     let left = c.wide_product.ensures ∙ ap₂ (λ x y. x *ℤ y) (to_z-of_z w64 c.args.a c.ranges.a) (to_z-of_z w64 c.args.d c.ranges.d) in
     let right = c.wide_product-2.ensures ∙ ap₂ (λ x y. x *ℤ y) (to_z-of_z w64 c.args.c c.ranges.c) (to_z-of_z w64 c.args.b c.ranges.b) in
-    same_test c.wide_product.result c.wide_product-2.result (c.args.a *ℤ c.args.d) (c.args.c *ℤ c.args.b) (record { sfits = c.wide_product.type_inv }) (record { sfits = c.wide_product-2.type_inv }) left right
+    same_test c.wide_product.result c.wide_product-2.result (c.args.a *ℤ c.args.d) (c.args.c *ℤ c.args.b) (record { sfits = c.wide_product.type_inv })
+    (record { sfits = c.wide_product-2.type_inv }) left right

@@ -12,7 +12,8 @@ pub loop-place-preserved : goal.loop-place-preserved
 loop-place-preserved c =
     let s = c.next_digit-digit.ensures in
     let i = c.loop-place.invariant in (
-      digit_more c.loop-place.part c.loop-place.left c.next_digit-digit.result.1 c.next_digit-digit.result.0 c.args.den c.args.rest c.loop-place.place i.0 s.split,
+      digit_more c.loop-place.part c.loop-place.left c.next_digit-digit.result.1 c.next_digit-digit.result.0 c.args.den c.args.rest
+          c.loop-place.place i.0 s.split,
       s.below,
       omega (arith, ten_more c.loop-place.place, i.2, s.digit),
     )

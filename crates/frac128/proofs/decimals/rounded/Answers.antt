@@ -7,16 +7,19 @@ pub returns-then-left-den-clause-half_up : goal.returns-then-left-den-clause-hal
 returns-then-left-den-clause-half_up c =
     let a = c.args in
     let d = c.digits_behind-part in
-    rounds_down (10 ^ a.places) a.num a.den (a.num / a.den) (a.num % a.den) d.result.0 d.result.1 (sym (div-add-mod' a.num a.den)) d.ensures.split d.ensures.below c.if-left-den.true
+    rounds_down (10 ^ a.places) a.num a.den (a.num / a.den) (a.num % a.den) d.result.0 d.result.1 (sym (div-add-mod' a.num a.den)) d.ensures.split
+    d.ensures.below c.if-left-den.true
 
 pub returns-then-part-power-clause-half_up : goal.returns-then-part-power-clause-half_up
 returns-then-part-power-clause-half_up c =
     let a = c.args in
     let d = c.digits_behind-part in
-    rounds_up (10 ^ a.places) a.num a.den (a.num / a.den) (a.num % a.den) d.result.0 d.result.1 (sym (div-add-mod' a.num a.den)) d.ensures.split d.ensures.below c.if-left-den.false
+    rounds_up (10 ^ a.places) a.num a.den (a.num / a.den) (a.num % a.den) d.result.0 d.result.1 (sym (div-add-mod' a.num a.den)) d.ensures.split d.ensures.below
+    c.if-left-den.false
 
 pub returns-else-part-power-clause-half_up : goal.returns-else-part-power-clause-half_up
 returns-else-part-power-clause-half_up c =
     let a = c.args in
     let d = c.digits_behind-part in
-    rounds_over (10 ^ a.places) a.num a.den (a.num / a.den) (a.num % a.den) d.result.0 d.result.1 (sym (div-add-mod' a.num a.den)) d.ensures.split d.ensures.below c.if-left-den.false (omega (arith, c.power.ensures, d.ensures.part, c.if-part-power.false))
+    rounds_over (10 ^ a.places) a.num a.den (a.num / a.den) (a.num % a.den) d.result.0 d.result.1 (sym (div-add-mod' a.num a.den)) d.ensures.split
+    d.ensures.below c.if-left-den.false (omega (arith, c.power.ensures, d.ensures.part, c.if-part-power.false))

@@ -1,5 +1,4 @@
-use Rattle.std.proofs.Common.{rules, ◌≡◌, pos, ◌<ℤ◌}
-use Rattle.integers.specs.Divisibility.{gcd_of}
+use Rattle.std.proofs.Common.{rules, pos, ◌<ℤ◌}
 use Rattle.integers.proofs.Divisibility.{gcd_of_pos}
 use Rattle.frac128.proofs.Checked.{checked_sum-is}
 use Rattle.frac128.proofs.frac.Frac.add.Goals as goal

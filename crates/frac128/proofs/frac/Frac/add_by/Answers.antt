@@ -26,5 +26,7 @@ returns c =
     let divides : IsGcdOf f.den g.den (unsigned_abs k) = rw c.requires.divisor (IsGcdOf-gcd_of f.den g.den) in
     let parts : r.num *ℤ (f.den *ℤ int_div g.den k) ≡ (f.num *ℤ int_div g.den k +ℤ g.num *ℤ int_div f.den k) *ℤ r.den = search rules in
     let fits : SumFits f g = search rules in
-    let value : SameFraction r (fraction_sum f g) = sum_value f.num f.den g.num g.den k (int_div f.den k) (int_div g.den k) r.num r.den (quotient_whole f.den k c.requires.positive divides.0) (quotient_whole g.den k c.requires.positive divides.1) parts in
+    let value : SameFraction r (fraction_sum f g) =
+    sum_value f.num f.den g.num g.den k (int_div f.den k) (int_div g.den k) r.num r.den (quotient_whole f.den k c.requires.positive divides.0)
+    (quotient_whole g.den k c.requires.positive divides.1) parts in
     (fits, c.reduced.ensures.lowest, value)

@@ -10,5 +10,6 @@ returns-clause-is c = product_with_reciprocal c.args.self.now c.args.other.now c
 -- the product with the reciprocal is the quotient
 pub returns-clause-exact : goal.returns-clause-exact
 returns-clause-exact c =
-    let product = subst (λ t. IsExact c.mul.result (ProductFits c.args.self.now t) (fraction_product c.args.self.now t)) c.reciprocal.ensures c.mul.ensures.exact in
+    let product =
+    subst (λ t. IsExact c.mul.result (ProductFits c.args.self.now t) (fraction_product c.args.self.now t)) c.reciprocal.ensures c.mul.ensures.exact in
     exact_quotient c.args.self.now c.args.other.now c.mul.result product

@@ -13,7 +13,8 @@ invariant_of-result c =
     let den_is : c.in_ok-den.den ≡ int_div f.den c.args.second *ℤ int_div g.den c.args.first = search rules in
     let left : IsReduced f = rw (← c.self.view_is) c.self.invariant in
     let right : IsReduced g = rw (← c.other.view_is) c.other.invariant in
-    (product_is f g c.args.first c.args.second c.in_ok-num.num c.in_ok-den.den left right c.requires.positive.0 c.requires.positive.1 c.requires.first c.requires.second num_is den_is).0
+    (product_is f g c.args.first c.args.second c.in_ok-num.num c.in_ok-den.den left right c.requires.positive.0 c.requires.positive.1 c.requires.first
+    c.requires.second num_is den_is).0
 
 pub returns : goal.returns
 returns c =
@@ -24,5 +25,7 @@ returns c =
     let left : IsReduced f = rw (← c.self.view_is) c.self.invariant in
     let right : IsReduced g = rw (← c.other.view_is) c.other.invariant in
     let fits : ProductFits f g = search rules in
-    let is = product_is f g c.args.first c.args.second c.in_ok-num.num c.in_ok-den.den left right c.requires.positive.0 c.requires.positive.1 c.requires.first c.requires.second num_is den_is in
+    let is =
+    product_is f g c.args.first c.args.second c.in_ok-num.num c.in_ok-den.den left right c.requires.positive.0 c.requires.positive.1 c.requires.first
+    c.requires.second num_is den_is in
     (fits, is.0, is.1)

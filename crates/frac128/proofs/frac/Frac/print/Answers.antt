@@ -17,10 +17,12 @@ returns-then-den-eq1-clause-reads_back c =
     let f = c.args.self.now in
     let whole : f.den ≡ pos 1 = omega (arith, ints) in
     let read = reading_of_printed f (c.den-den.ensures.positive, c.den-den.ensures.lowest) c.num-num.ensures.in_range c.den-den.ensures.in_range in
-    IfOk-weaker c.format.result (λ text. string_bytes text ≡ signed_decimal f.num) _ (λ text h. subst (λ bytes. IsReading bytes f) (sym (h ∙ sym (frac_text_whole f whole))) read) (search rules)
+    IfOk-weaker c.format.result (λ text. string_bytes text ≡ signed_decimal f.num) _
+    (λ text h. subst (λ bytes. IsReading bytes f) (sym (h ∙ sym (frac_text_whole f whole))) read) (search rules)
 
 pub returns-else-den-eq1-clause-reads_back : goal.returns-else-den-eq1-clause-reads_back
 returns-else-den-eq1-clause-reads_back c =
     let f = c.args.self.now in
     let read = reading_of_printed f (c.den-den.ensures.positive, c.den-den.ensures.lowest) c.num-num.ensures.in_range c.den-den.ensures.in_range in
-    IfOk-weaker c.format-else-den-eq1.result (λ text. string_bytes text ≡ frac_text f) _ (λ text h. subst (λ bytes. IsReading bytes f) (sym h) read) (search rules)
+    IfOk-weaker c.format-else-den-eq1.result (λ text. string_bytes text ≡ frac_text f) _
+    (λ text h. subst (λ bytes. IsReading bytes f) (sym h) read) (search rules)

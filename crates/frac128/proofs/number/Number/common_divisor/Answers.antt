@@ -11,7 +11,8 @@ small : (c : goal.After-greatest_common_divisor-divisor) → c.greatest_common_d
 small c =
     let left : c.unsigned_abs.result < 2 ^ 127 = search rules in
     let right : c.unsigned_abs-2.result < 2 ^ 127 = search rules in
-    IsGcd-below c.unsigned_abs.result c.unsigned_abs-2.result c.greatest_common_divisor-divisor.result (2 ^ 127) left right c.greatest_common_divisor-divisor.ensures
+    IsGcd-below c.unsigned_abs.result c.unsigned_abs-2.result c.greatest_common_divisor-divisor.result (2 ^ 127) left right
+    c.greatest_common_divisor-divisor.ensures
 
 -- the cast keeps it
 kept : (c : goal.After-greatest_common_divisor-divisor) → to_z w128 c.greatest_common_divisor-divisor.result ≡ pos c.greatest_common_divisor-divisor.result

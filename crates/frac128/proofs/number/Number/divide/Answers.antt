@@ -18,8 +18,10 @@ returns-then-rest-lt0-clause-whole c =
     let floor_fits : FitsSigned w128 (q -ℤ pos 1) = search rules in
     let rest_fits : FitsSigned w128 (r +ℤ d) = search rules in
     let floor_is : to_z w128 (of_z w128 (q -ℤ pos 1)) ≡ q -ℤ pos 1 = to_z-of_z w128 (q -ℤ pos 1) floor_fits in
-    let rest_is : to_z w128 (of_z w128 (r +ℤ to_z w128 (of_z w128 d))) ≡ r +ℤ d = ap (λ z. to_z w128 (of_z w128 (r +ℤ z))) (to_z-of_z w128 d d_fits) ∙ to_z-of_z w128 (r +ℤ d) rest_fits in
-    rw (← c.self.view_is, ← c.divisor.view_is) (lowered a d q r (to_z w128 (of_z w128 (q -ℤ pos 1))) (to_z w128 (of_z w128 (r +ℤ to_z w128 (of_z w128 d)))) whole floor_is rest_is)
+    let rest_is : to_z w128 (of_z w128 (r +ℤ to_z w128 (of_z w128 d))) ≡ r +ℤ d =
+    ap (λ z. to_z w128 (of_z w128 (r +ℤ z))) (to_z-of_z w128 d d_fits) ∙ to_z-of_z w128 (r +ℤ d) rest_fits in
+    rw (← c.self.view_is, ← c.divisor.view_is) (lowered a d q r (to_z w128 (of_z w128 (q -ℤ pos 1))) (to_z w128 (of_z w128 (r +ℤ to_z w128 (of_z w128 d))))
+    whole floor_is rest_is)
 
 -- the truncated quotient is rounded down already
 pub returns-else-rest-lt0-clause-whole : goal.returns-else-rest-lt0-clause-whole
