@@ -3,11 +3,9 @@ use Rattle.std.proofs.Common.{◌≡◌, ℕ, ◌-◌, ℤ, Bool, true, List, �
 use Rattle.std.specs.Prelude.{nat_lt}
 use Rattle.std.specs.List.{AllByRecursion, range_with_len}
 use Rattle.judgement_matrix.specs.Matrix.{Judgements, IsPair, pairs, range_at}
-use Rattle.judgement_matrix.specs.Rows.{lower_rows, zero_rows, cross_rows, order_rows, rows, IsTagAmong, IsFitAmong, IsFit}
+use Rattle.judgement_matrix.specs.Rows.{lower_rows, zero_rows, cross_rows, order_rows, rows, IsTagAmong}
 use Rattle.judgement_matrix.specs.declared.tag.Tag.{Tag}
 use Rattle.judgement_matrix.specs.declared.tag.Tag.TheVariants.{Lower, Zero, Cross, Order}
-use Rattle.judgement_matrix.specs.declared.tag.Fit.{Fit}
-use Rattle.judgement_matrix.specs.declared.tag.Fit.TheVariants.{Meets, Fails}
 use Rattle.judgement_matrix.proofs.EveryLemmas.{every-append, every-append_right, every-map, every-filter, every-flat_map, every-pairs, every-range, every_weaker}
 
 -- what holds of each pair holds of those that pass a test
@@ -15,7 +13,8 @@ every-some_pairs : (n : ℕ) (P : ℕ × ℕ → Type 0) (test : ℕ × ℕ → 
 every-some_pairs n P test h =
     every-filter P test (pairs n) (every_weaker P (λ pair. test pair ≡ true → P pair) (λ pair k e. k) (pairs n) (every-pairs n (λ p q. P (p, q)) h))
 
-every-rows : (m : Judgements) → AllByRecursion (IsTagAmong m.size) (rows m)
+-- each row is
+pub every-rows : (m : Judgements) → AllByRecursion (IsTagAmong m.size) (rows m)
 every-rows m =
     let Among : Tag → Type 0 = IsTagAmong m.size in
     let lower : AllByRecursion Among (lower_rows m) =
@@ -29,9 +28,3 @@ every-rows m =
     let order : AllByRecursion Among (order_rows m) =
     every-map Among (λ p. Order p) (range_with_len 1 (m.size - 1)) (every-range (λ p. Among (Order p)) 1 (m.size - 1) (λ k low high. (low, omega arith))) in
     every-append Among _ _ (every-append Among _ _ (every-append Among _ _ lower zero) cross) order
-
--- so the row that is named first is one
-pub IsFitAmong-from_fit : (m : Judgements) (w : List ℤ) (n : ℤ) (fit : Fit) → IsFit m w n fit → IsFitAmong m.size fit
-IsFitAmong-from_fit m w n Meets h = tt
-IsFitAmong-from_fit m w n (Fails tag) h =
-    (every-append_right (IsTagAmong m.size) h.before (tag ∷ h.after) (subst (AllByRecursion (IsTagAmong m.size)) h.stands (every-rows m))).0

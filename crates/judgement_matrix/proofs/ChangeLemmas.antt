@@ -142,13 +142,13 @@ place-without n p (suc x) y above in_n =
     let two_less : suc (suc x) - 1 ≡ suc x = omega arith in
     elim (from_cases p (suc x)) [
       | inl u ↦ elim (from_cases p y) [
-          | inl l ↦ rw (u.0, l.0, one_less) (omega (arith, before_fewer n x))
-          | inr l ↦ rw (u.0, l.0, one_less) (omega (arith, before_fewer n x))
-        ]
+        | inl l ↦ rw (u.0, l.0, one_less) (omega (arith, before_fewer n x))
+        | inr l ↦ rw (u.0, l.0, one_less) (omega (arith, before_fewer n x))
+      ]
       | inr u ↦ elim (from_cases p y) [
-          | inl l ↦ absurd (omega (arith, u.1, l.1, in_n.1))
-          | inr l ↦ rw (u.0, l.0, one_less, two_less) (omega (arith, before_fewer n x))
-        ]
+        | inl l ↦ absurd (omega (arith, u.1, l.1, in_n.1))
+        | inr l ↦ rw (u.0, l.0, one_less, two_less) (omega (arith, before_fewer n x))
+      ]
     ]
 
 -- ---- the cells are moved one by one

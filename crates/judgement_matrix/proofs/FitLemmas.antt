@@ -1,5 +1,5 @@
 -- That a scale meets a matrix is that all rows hold, and what is to be answered is one thing.
-use Rattle.std.proofs.Common.{◌≡◌, ℕ, zero, suc, ◌+◌, ◌-◌, ◌<◌, ◌≤◌, ℤ, pos, ◌≤ℤ◌, ◌*ℤ◌, Bool, true, false, List, ◌++◌, Option, Some, None, filter, find, ◌↔◌, add-zero, refl, sym, ap, ◌∙◌, subst, arith}
+use Rattle.std.proofs.Common.{◌≡◌, ℕ, zero, suc, ◌+◌, ◌-◌, ◌<◌, ◌≤◌, ℤ, pos, ◌≤ℤ◌, ◌*ℤ◌, ◌-ℤ◌, Bool, true, false, List, ◌++◌, Option, Some, None, filter, find, ◌↔◌, add-zero, refl, sym, ap, ◌∙◌, subst, arith}
 use Rattle.std.specs.Prelude.{int_lt, nat_le, nat_lt, ◌==◌}
 use Rattle.std.specs.List.{AllByRecursion, range_with_len}
 use Rattle.std.proofs.lemmas.Int.{ints}
@@ -7,8 +7,7 @@ use Rattle.std.proofs.lemmas.Bool.Decides.{nat_tests}
 use Rattle.integers.proofs.Order.{le_of_lt}
 use Rattle.judgement_matrix.specs.Matrix.{Judgements, IsPair, pairs, range_at}
 use Rattle.judgement_matrix.specs.Scale.{difference, IsScale, IsMetInUnit, IsMetBy}
-use Rattle.judgement_matrix.specs.Rows.{lower_rows, zero_rows, cross_rows, order_rows, rows, RowHolds, IsFit}
-use Rattle.judgement_matrix.specs.Walk.{row_fails, cross_rows_under}
+use Rattle.judgement_matrix.specs.Rows.{lower_rows, zero_rows, cross_rows_under, cross_rows, order_rows, rows, RowHolds, IsFit}
 use Rattle.judgement_matrix.specs.declared.tag.Tag.{Tag}
 use Rattle.judgement_matrix.specs.declared.tag.Tag.TheVariants.{Lower, Zero, Cross, Order}
 use Rattle.judgement_matrix.specs.declared.tag.Fit.{Fit}
@@ -17,7 +16,7 @@ use Rattle.judgement_matrix.proofs.EveryLemmas.{every-append, every-append_left,
 use Rattle.judgement_matrix.proofs.FindLemmas.{find_none, find_from_none, find_first, find_from_first}
 
 -- a bound of at least 0, times a category
-at_least_zero : (n : ℤ) (lo : ℕ) → pos 0 ≤ℤ n → pos 0 ≤ℤ (n *ℤ pos lo)
+pub at_least_zero : (n : ℤ) (lo : ℕ) → pos 0 ≤ℤ n → pos 0 ≤ℤ (n *ℤ pos lo)
 at_least_zero n lo h = grind (arith, ints)
 
 -- a test of order and the order
@@ -32,32 +31,39 @@ holds_order a b h = grind (arith, ints)
 test_order : (a b : ℤ) → b ≤ℤ a → int_lt a b ≡ false
 test_order a b h = grind (arith, ints)
 
+-- the scale w over n fails the constraint of a row
+abbrev row_misses : Judgements → List ℤ → ℤ → Tag → Bool
+row_misses m w n (Lower p q) = int_lt (difference w p q) (n *ℤ pos (range_at m p q).lo)
+row_misses m w n (Zero p q) = int_lt (pos 0) (difference w p q)
+row_misses m w n (Cross p q x y) = int_lt (difference w p q -ℤ difference w x y) (n *ℤ (pos (range_at m p q).lo -ℤ pos (range_at m x y).hi))
+row_misses m w n (Order p) = int_lt (difference w p (p + 1)) (pos 0)
+
 -- the test of a row says whether the row holds
-pub row_fails-true : (m : Judgements) (w : List ℤ) (n : ℤ) (tag : Tag) → row_fails m w n tag ≡ true → ¬ RowHolds m w n tag
-row_fails-true m w n (Lower p q) h = fails_order _ _ h
-row_fails-true m w n (Zero p q) h = fails_order _ _ h
-row_fails-true m w n (Cross p q x y) h = fails_order _ _ h
-row_fails-true m w n (Order p) h = fails_order _ _ h
+row_misses-true : (m : Judgements) (w : List ℤ) (n : ℤ) (tag : Tag) → row_misses m w n tag ≡ true → ¬ RowHolds m w n tag
+row_misses-true m w n (Lower p q) h = fails_order _ _ h
+row_misses-true m w n (Zero p q) h = fails_order _ _ h
+row_misses-true m w n (Cross p q x y) h = fails_order _ _ h
+row_misses-true m w n (Order p) h = fails_order _ _ h
 
 -- a row that passes holds
-pub row_fails-false : (m : Judgements) (w : List ℤ) (n : ℤ) (tag : Tag) → row_fails m w n tag ≡ false → RowHolds m w n tag
-row_fails-false m w n (Lower p q) h = holds_order _ _ h
-row_fails-false m w n (Zero p q) h = holds_order _ _ h
-row_fails-false m w n (Cross p q x y) h = holds_order _ _ h
-row_fails-false m w n (Order p) h = holds_order _ _ h
+row_misses-false : (m : Judgements) (w : List ℤ) (n : ℤ) (tag : Tag) → row_misses m w n tag ≡ false → RowHolds m w n tag
+row_misses-false m w n (Lower p q) h = holds_order _ _ h
+row_misses-false m w n (Zero p q) h = holds_order _ _ h
+row_misses-false m w n (Cross p q x y) h = holds_order _ _ h
+row_misses-false m w n (Order p) h = holds_order _ _ h
 
 -- a row that holds passes
-pub row_fails_not : (m : Judgements) (w : List ℤ) (n : ℤ) (tag : Tag) → RowHolds m w n tag → row_fails m w n tag ≡ false
-row_fails_not m w n (Lower p q) h = test_order _ _ h
-row_fails_not m w n (Zero p q) h = test_order _ _ h
-row_fails_not m w n (Cross p q x y) h = test_order _ _ h
-row_fails_not m w n (Order p) h = test_order _ _ h
+row_misses_not : (m : Judgements) (w : List ℤ) (n : ℤ) (tag : Tag) → RowHolds m w n tag → row_misses m w n tag ≡ false
+row_misses_not m w n (Lower p q) h = test_order _ _ h
+row_misses_not m w n (Zero p q) h = test_order _ _ h
+row_misses_not m w n (Cross p q x y) h = test_order _ _ h
+row_misses_not m w n (Order p) h = test_order _ _ h
 
 -- a row that doesn't hold fails
-pub row_fails_is : (m : Judgements) (w : List ℤ) (n : ℤ) (tag : Tag) → ¬ RowHolds m w n tag → row_fails m w n tag ≡ true
-row_fails_is m w n tag h =
-    let G : Bool → Type 0 = λ b. row_fails m w n tag ≡ b → row_fails m w n tag ≡ true in
-    let by_test : G (row_fails m w n tag) = elim (row_fails m w n tag) as G [ true ↦ λ e. e | false ↦ λ e. absurd (h (row_fails-false m w n tag e)) ] in
+row_misses_is : (m : Judgements) (w : List ℤ) (n : ℤ) (tag : Tag) → ¬ RowHolds m w n tag → row_misses m w n tag ≡ true
+row_misses_is m w n tag h =
+    let G : Bool → Type 0 = λ b. row_misses m w n tag ≡ b → row_misses m w n tag ≡ true in
+    let by_test : G (row_misses m w n tag) = elim (row_misses m w n tag) as G [ true ↦ λ e. e | false ↦ λ e. absurd (h (row_misses-false m w n tag e)) ] in
     by_test refl
 
 -- the test of a least category
@@ -218,29 +224,29 @@ module _ (m : Judgements) (w : List ℤ) (n : ℤ) where
   fit_of (Some tag) = Fails tag
 
   -- what the first row that fails, if any, answers
-  pub IsFit-find : IsScale m w n → (r : Option Tag) → r ≡ find (row_fails m w n) (rows m) → IsFit m w n (fit_of r)
+  pub IsFit-find : IsScale m w n → (r : Option Tag) → r ≡ find (row_misses m w n) (rows m) → IsFit m w n (fit_of r)
   IsFit-find scale None e =
-      let hold = every_weaker (λ tag. row_fails m w n tag ≡ false) Holds (λ tag k. row_fails-false m w n tag k) (rows m) (find_none (row_fails m w n) (rows m) (sym e)) in
+      let hold = every_weaker (λ tag. row_misses m w n tag ≡ false) Holds (λ tag k. row_misses-false m w n tag k) (rows m) (find_none (row_misses m w n) (rows m) (sym e)) in
       record { scale = scale; meets = met_from_rows hold }
   IsFit-find scale (Some tag) e =
-      let f = find_first (row_fails m w n) (rows m) tag (sym e) in
+      let f = find_first (row_misses m w n) (rows m) tag (sym e) in
       record {
         before = f.before;
         after = f.after;
         stands = f.stands;
-        hold = every_weaker (λ other. row_fails m w n other ≡ false) Holds (λ other k. row_fails-false m w n other k) f.before f.fail;
-        fails = row_fails-true m w n tag f.passes;
+        hold = every_weaker (λ other. row_misses m w n other ≡ false) Holds (λ other k. row_misses-false m w n other k) f.before f.fail;
+        fails = row_misses-true m w n tag f.passes;
       }
 
   -- an answer is that of the first row that fails
-  pub fit_is : (fit : Fit) → IsFit m w n fit → fit ≡ fit_of (find (row_fails m w n) (rows m))
+  pub fit_is : (fit : Fit) → IsFit m w n fit → fit ≡ fit_of (find (row_misses m w n) (rows m))
   fit_is Meets h =
-      let none = find_from_none (row_fails m w n) (rows m) (every_weaker Holds (λ tag. row_fails m w n tag ≡ false) (λ tag k. row_fails_not m w n tag k) (rows m) (rows_from_met (le_of_lt (pos 0) n h.scale.den_pos) h.meets)) in
+      let none = find_from_none (row_misses m w n) (rows m) (every_weaker Holds (λ tag. row_misses m w n tag ≡ false) (λ tag k. row_misses_not m w n tag k) (rows m) (rows_from_met (le_of_lt (pos 0) n h.scale.den_pos) h.meets)) in
       ap fit_of (sym none)
   fit_is (Fails tag) h =
-      let fail = every_weaker Holds (λ other. row_fails m w n other ≡ false) (λ other k. row_fails_not m w n other k) h.before h.hold in
-      let found = find_from_first (row_fails m w n) h.before tag h.after fail (row_fails_is m w n tag h.fails) in
-      ap fit_of (sym (ap (find (row_fails m w n)) h.stands ∙ found))
+      let fail = every_weaker Holds (λ other. row_misses m w n other ≡ false) (λ other k. row_misses_not m w n other k) h.before h.hold in
+      let found = find_from_first (row_misses m w n) h.before tag h.after fail (row_misses_is m w n tag h.fails) in
+      ap fit_of (sym (ap (find (row_misses m w n)) h.stands ∙ found))
 
   -- there is at most one answer
   pub IsFit-unique : (a b : Fit) → IsFit m w n a → IsFit m w n b → a ≡ b
@@ -252,4 +258,4 @@ module _ (m : Judgements) (w : List ℤ) (n : ℤ) where
 
   -- there is an answer for every scale
   pub fit_exists : IsScale m w n → (fit : Fit) × IsFit m w n fit
-  fit_exists scale = (fit_of (find (row_fails m w n) (rows m)), IsFit-find scale (find (row_fails m w n) (rows m)) refl)
+  fit_exists scale = (fit_of (find (row_misses m w n) (rows m)), IsFit-find scale (find (row_misses m w n) (rows m)) refl)

@@ -1,5 +1,6 @@
 -- What a judgement changes.
-use Rattle.std.proofs.Common.{◌≡◌, ℕ, ◌≤◌, refl, ◌<◌, true, false, length, get_or, sym, ap, ◌∙◌, arith}
+use Rattle.std.proofs.Common.{Bool, ◌≡◌, ℕ, ◌≤◌, refl, ◌<◌, true, false, length, get_or, sym, ap, ◌∙◌, arith}
+use Rattle.std.specs.Prelude.{slice_set}
 use Rattle.std.proofs.lemmas.List.{get_or-set_same, get_or-set_other, get_or-replicate, length-replicate, length-set}
 use Rattle.std.proofs.lemmas.List.Elements.{All-replicate, All-set}
 use Rattle.judgement_matrix.specs.Range.{Bounds, IsRange, full}
@@ -13,16 +14,20 @@ place_injective n p q x y in_n at_n e =
     let same = sym (get_or-place n x y (0, 0) at_n) ∙ ap (λ k. get_or (pairs n) k (0, 0)) e ∙ get_or-place n p q (0, 0) in_n in
     (ap (λ pair. pair.0) same, ap (λ pair. pair.1) same)
 
--- the pair that was judged
-pub cell_at-judged_here : (m : Judgements) (p q : ℕ) (range : Bounds) → length m.cells ≡ length (pairs m.size) → IsPair m.size p q → cell_at (judged m p q range) p q ≡ (range, true)
-cell_at-judged_here m p q range each in_n =
+-- the judgements with one cell changed
+abbrev changed : Judgements → ℕ → ℕ → Bounds × Bool → Judgements
+changed m p q cell = record { size = m.size; cells = slice_set m.cells (place m.size p q) cell }
+
+-- the pair that was changed
+pub cell_at-set_here : (m : Judgements) (p q : ℕ) (cell : Bounds × Bool) → length m.cells ≡ length (pairs m.size) → IsPair m.size p q → cell_at (changed m p q cell) p q ≡ cell
+cell_at-set_here m p q cell each in_n =
     let below : place m.size p q < length m.cells = rw each (place-below m.size p q in_n) in
-    get_or-set_same m.cells (place m.size p q) (range, true) (full, false) below
+    get_or-set_same m.cells (place m.size p q) cell (full, false) below
 
 -- any other pair
-pub cell_at-judged_other : (m : Judgements) (p q x y : ℕ) (range : Bounds) → IsPair m.size p q → IsPair m.size x y → ¬ ((x ≡ p) × (y ≡ q)) → cell_at (judged m p q range) x y ≡ cell_at m x y
-cell_at-judged_other m p q x y range in_n at_n apart =
-    get_or-set_other m.cells (place m.size p q) (place m.size x y) (range, true) (full, false)
+pub cell_at-set_other : (m : Judgements) (p q x y : ℕ) (cell : Bounds × Bool) → IsPair m.size p q → IsPair m.size x y → ¬ ((x ≡ p) × (y ≡ q)) → cell_at (changed m p q cell) x y ≡ cell_at m x y
+cell_at-set_other m p q x y cell in_n at_n apart =
+    get_or-set_other m.cells (place m.size p q) (place m.size x y) cell (full, false)
     (λ e. apart (place_injective m.size p q x y in_n at_n e))
 
 -- each pair where nothing is judged

@@ -2,9 +2,12 @@ pub mod PlaceLemmas
 pub mod WalkLemmas
 pub mod EveryLemmas
 pub mod FindLemmas
+pub mod SearchLemmas
 pub mod FitLemmas
-pub mod TestLemmas
 pub mod JudgedLemmas
 pub mod AmongLemmas
 pub mod Examples
 pub mod ChangeLemmas
+pub mod ValueLemmas
+pub mod ScaleLemmas
+pub mod ShiftLemmas

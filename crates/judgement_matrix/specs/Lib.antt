@@ -4,6 +4,7 @@ pub mod Same
 pub mod Change
 pub mod Scale
 pub mod Rows
+pub mod Values
 pub mod Walk
 pub mod Least
 pub mod Repair

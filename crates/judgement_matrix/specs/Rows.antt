@@ -8,18 +8,34 @@ use Rattle.judgement_matrix.specs.declared.tag.Tag.TheVariants.{Lower, Zero, Cro
 use Rattle.judgement_matrix.specs.declared.tag.Fit.{Fit}
 use Rattle.judgement_matrix.specs.declared.tag.Fit.TheVariants.{Meets, Fails}
 
--- each pair whose range begins at 1 or above
+-- of these pairs, each whose range begins at 1 or above
+abbrev pub lower_rows_of : Judgements → List (ℕ × ℕ) → List Tag
+lower_rows_of m ps = map (λ pair. Lower pair.0 pair.1) (filter (λ pair. nat_le 1 (range_at m pair.0 pair.1).lo) ps)
+
+-- of these pairs, each whose range is 0 alone
+abbrev pub zero_rows_of : Judgements → List (ℕ × ℕ) → List Tag
+zero_rows_of m ps = map (λ pair. Zero pair.0 pair.1) (filter (λ pair. (range_at m pair.0 pair.1).hi == 0) ps)
+
+-- for one pair, each of these whose range lies wholly below its own
+abbrev pub cross_rows_under : Judgements → ℕ × ℕ → List (ℕ × ℕ) → List Tag
+cross_rows_under m left ps = map (λ right. Cross left.0 left.1 right.0 right.1)
+    (filter (λ right. nat_lt (range_at m right.0 right.1).hi (range_at m left.0 left.1).lo) ps)
+
+-- the same for each of these pairs
+abbrev pub cross_rows_of : Judgements → List (ℕ × ℕ) → List (ℕ × ℕ) → List Tag
+cross_rows_of m lefts rights = flat_map (λ left. cross_rows_under m left rights) lefts
+
+-- the lower rows of all pairs
 abbrev pub lower_rows : Judgements → List Tag
-lower_rows m = map (λ pair. Lower pair.0 pair.1) (filter (λ pair. nat_le 1 (range_at m pair.0 pair.1).lo) (pairs m.size))
+lower_rows m = lower_rows_of m (pairs m.size)
 
--- each pair whose range is 0 alone
+-- the zero rows of all pairs
 abbrev pub zero_rows : Judgements → List Tag
-zero_rows m = map (λ pair. Zero pair.0 pair.1) (filter (λ pair. (range_at m pair.0 pair.1).hi == 0) (pairs m.size))
+zero_rows m = zero_rows_of m (pairs m.size)
 
--- each pair, and for it each pair whose range lies wholly below its own
+-- the cross rows of all pairs
 abbrev pub cross_rows : Judgements → List Tag
-cross_rows m = flat_map (λ left. map (λ right. Cross left.0 left.1 right.0 right.1)
-    (filter (λ right. nat_lt (range_at m right.0 right.1).hi (range_at m left.0 left.1).lo) (pairs m.size))) (pairs m.size)
+cross_rows m = cross_rows_of m (pairs m.size) (pairs m.size)
 
 -- each element but the last, against the next one
 abbrev pub order_rows : Judgements → List Tag

@@ -1,6 +1,6 @@
 -- When a scale meets a matrix. A scale is the list w of n whole numbers over one denominator, its last number 0.
 -- After LP-MACBETH (Bana e Costa, De Corte and Vansnick 2005); the exact constraints are this project's own.
-use Rattle.std.specs.Prelude.{◌≡◌, All, ℕ, ◌-◌, ◌<◌, ℤ, pos, neg_ℤ, ◌-ℤ◌, ◌*ℤ◌, ◌≤ℤ◌, ◌<ℤ◌, List, length, slice_index_or}
+use Rattle.std.specs.Prelude.{◌≡◌, ℕ, ◌-◌, ◌<◌, ℤ, pos, ◌-ℤ◌, ◌*ℤ◌, ◌≤ℤ◌, ◌<ℤ◌, List, length, slice_index_or}
 use Rattle.judgement_matrix.specs.Matrix.{Judgements, IsPair, range_at}
 
 -- the number of element p, counted from 1
@@ -16,10 +16,6 @@ pub record IsScale (m : Judgements) (w : List ℤ) (n : ℤ) : Type 0 where
   pub den_pos : pos 0 <ℤ n
   pub each : length w ≡ m.size
   pub last : value_at w m.size ≡ pos 0
-
--- each number is from -10^9 to 10^9
-abbrev pub AllBounded : List ℤ → Type 0
-AllBounded w = All (λ v. (neg_ℤ (pos 1000000000) ≤ℤ v) × (v ≤ℤ pos 1000000000)) w
 
 -- the constraints with each bound multiplied by the unit, for all pairs
 pub record IsMetInUnit (m : Judgements) (unit : ℤ) (w : List ℤ) : Type 0 where

@@ -1,8 +1,12 @@
 -- A walk over the pairs, and the rows that a scale fails.
-use Rattle.std.specs.Prelude.{ℕ, ◌+◌, ◌-◌, ◌<◌, ◌≤◌, ℤ, pos, ◌-ℤ◌, ◌*ℤ◌, int_lt, Bool, List, ◌++◌, map, filter, nat_lt, nat_le, ◌==◌}
+use Rattle.std.specs.Prelude.{ℕ, ◌+◌, ◌-◌, ◌<◌, ◌≤◌, ℤ, pos, ◌-ℤ◌, ◌*ℤ◌, int_lt, Bool, true, false, if◌then◌else◌, List, [], ◌∷◌, ◌++◌, map, Option, Some, None, Result, Ok, Err}
 use Rattle.std.specs.List.{flat_map, range_with_len, AllByRecursion}
+use Rattle.integers.specs.Fraction.{Fraction}
+use Rattle.frac128.specs.Checked.{◌>>=◌}
+use Rattle.frac128.specs.declared.number.TooWide.{TooWide}
 use Rattle.judgement_matrix.specs.Matrix.{Judgements, IsPair, range_at}
-use Rattle.judgement_matrix.specs.Scale.{difference}
+use Rattle.judgement_matrix.specs.Values.{constraint_value}
+pub use Rattle.judgement_matrix.specs.Rows.{lower_rows_of, zero_rows_of, cross_rows_under, cross_rows_of}
 use Rattle.judgement_matrix.specs.declared.matrix.TheConstants.{LIMIT}
 use Rattle.judgement_matrix.specs.declared.tag.Tag.{Tag}
 use Rattle.judgement_matrix.specs.declared.tag.Tag.TheVariants.{Lower, Zero, Cross, Order}
@@ -24,26 +28,28 @@ pub record IsCursor (n p q : ℕ) : Type 0 where
 abbrev pub AllPairsOf : ℕ → List (ℕ × ℕ) → Type 0
 AllPairsOf n ps = AllByRecursion (λ pair. IsPair n pair.0 pair.1) ps
 
--- the lower rows of these pairs alone
-abbrev pub lower_rows_of : Judgements → List (ℕ × ℕ) → List Tag
-lower_rows_of m ps = map (λ pair. Lower pair.0 pair.1) (filter (λ pair. nat_le 1 (range_at m pair.0 pair.1).lo) ps)
+-- whether the value that a constraint compares fails it
+abbrev pub fails_at : Judgements → Tag → Fraction → Bool
+fails_at m (Lower p q) v = int_lt v.num (pos (range_at m p q).lo *ℤ v.den)
+fails_at m (Zero p q) v = int_lt (pos 0) v.num
+fails_at m (Cross p q x y) v = int_lt v.num ((pos (range_at m p q).lo -ℤ pos (range_at m x y).hi) *ℤ v.den)
+fails_at m (Order p) v = int_lt v.num (pos 0)
 
--- the zero rows of these pairs alone
-abbrev pub zero_rows_of : Judgements → List (ℕ × ℕ) → List Tag
-zero_rows_of m ps = map (λ pair. Zero pair.0 pair.1) (filter (λ pair. (range_at m pair.0 pair.1).hi == 0) ps)
+-- whether the values fail a row, where it isn't too wide
+abbrev pub row_fails : Judgements → List Fraction → Tag → Result Bool TooWide
+row_fails m fs tag = constraint_value fs tag >>= (λ v. Ok (fails_at m tag v))
 
--- the cross rows of one pair against these pairs
-abbrev pub cross_rows_under : Judgements → ℕ × ℕ → List (ℕ × ℕ) → List Tag
-cross_rows_under m left ps = map (λ right. Cross left.0 left.1 right.0 right.1)
-    (filter (λ right. nat_lt (range_at m right.0 right.1).hi (range_at m left.0 left.1).lo) ps)
+-- so for a row that there is only where a test passes
+abbrev pub fails_where : Bool → Result Bool TooWide → Result Bool TooWide
+fails_where there fails = if there then fails else Ok false
 
--- the cross rows of these pairs against those
-abbrev pub cross_rows_of : Judgements → List (ℕ × ℕ) → List (ℕ × ℕ) → List Tag
-cross_rows_of m lefts rights = flat_map (λ left. cross_rows_under m left rights) lefts
+-- a search that comes to a row, given what a search behind it finds
+abbrev pub from_row : Tag → Result (Option Tag) TooWide → Result Bool TooWide → Result (Option Tag) TooWide
+from_row tag behind (Ok true) = Ok (Some tag)
+from_row tag behind (Ok false) = behind
+from_row tag behind (Err wide) = Err wide
 
--- the scale w over n fails the constraint of a row
-abbrev pub row_fails : Judgements → List ℤ → ℤ → Tag → Bool
-row_fails m w n (Lower p q) = int_lt (difference w p q) (n *ℤ pos (range_at m p q).lo)
-row_fails m w n (Zero p q) = int_lt (pos 0) (difference w p q)
-row_fails m w n (Cross p q x y) = int_lt (difference w p q -ℤ difference w x y) (n *ℤ (pos (range_at m p q).lo -ℤ pos (range_at m x y).hi))
-row_fails m w n (Order p) = int_lt (difference w p (p + 1)) (pos 0)
+-- the first row that fails, or the refusal of one before it
+abbrev pub first_stop : (Tag → Result Bool TooWide) → List Tag → Result (Option Tag) TooWide
+first_stop fails [] = Ok None
+first_stop fails (tag ∷ tags) = from_row tag (first_stop fails tags) (fails tag)

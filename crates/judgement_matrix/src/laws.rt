@@ -1,17 +1,23 @@
 //! What the definitions in the contracts amount to: functions that do nothing, whose contracts are the laws.
 
-ghost use Rattle.std.specs.Prelude.{true, IsTrue, ℕ, ◌≡◌, ◌-◌, ◌≤◌, ◌↔◌, false, length, slice_get, Some, List, ℤ, pos, ◌≤ℤ◌};
+ghost use Rattle.std.specs.Prelude.{◌≡◌, ◌⊎◌, ℕ, ◌+◌, ◌-◌, ◌≤◌, ◌↔◌, true, false, IsTrue, length, replicate, slice_get, Some, List, ℤ, pos, ◌≤ℤ◌, ◌<ℤ◌};
 ghost use Rattle.std.specs.List.{AllByRecursion};
+ghost use Rattle.integers.specs.Fraction.{Fraction, AreFractions, over, SameFractions};
 ghost use Rattle.judgement_matrix.specs.declared.matrix.TheConstants.{LIMIT};
 ghost use Rattle.judgement_matrix.specs.Range.{full};
 ghost use Rattle.judgement_matrix.specs.Matrix.{IsPair, pairs, pairs_before, place, cell_at, unjudged, judged, cleared};
 ghost use Rattle.judgement_matrix.specs.Same.{same_judgements};
-ghost use Rattle.judgement_matrix.specs.Scale.{IsMetInUnit};
+ghost use Rattle.judgement_matrix.specs.Change.{grown, grown_cell, without, left_cell};
+ghost use Rattle.judgement_matrix.specs.Scale.{value_at, IsScale, IsMetInUnit, IsMetBy};
 ghost use Rattle.judgement_matrix.specs.Rows.{RowHolds, rows, IsFit};
+ghost use Rattle.judgement_matrix.specs.Values.{AreValues, IsAnswer};
+ghost use Rattle.judgement_matrix.specs.Least.{IsSmaller, IsLeastScale};
+ghost use Rattle.judgement_matrix.specs.Repair.{IsLawfulShift, shifted};
 
 use crate::matrix::Matrix;
 use crate::range::Range;
 use crate::tag::Fit;
+use frac128::TooWide;
 
 /// States how many elements a matrix may have. It does nothing.
 pub fn most_elements()
@@ -46,6 +52,30 @@ pub fn one_pair_judged(matrix: &Matrix, p: usize, q: usize, range: Range)
     prove!(matrix.size() >= 1);
 }
 
+/// States that where a judgement is taken back one pair has the full range, and every other pair keeps what it had. It
+/// does nothing.
+pub fn one_pair_cleared(matrix: &Matrix, p: usize, q: usize)
+    requires { IsPair matrix.now.size p q }
+    ensures here { cell_at (cleared matrix.now p q) p q ≡ (full, false) }
+    ensures elsewhere { (x y : ℕ) → IsPair matrix.now.size x y → ¬ ((x ≡ p) × (y ≡ q))
+        → cell_at (cleared matrix.now p q) x y ≡ cell_at matrix.now x y }
+{
+    // What a matrix keeps is told by its size.
+    prove!(matrix.size() >= 1);
+}
+
+/// States that after a new element came in each pair has the cell of the pair that it was, if it was one. It does nothing.
+pub fn pairs_of_grown(matrix: &Matrix, p: usize, q: usize)
+    requires { IsPair (matrix.now.size + 1) p q }
+    ensures { cell_at (grown matrix.now) p q ≡ grown_cell matrix.now (p, q) }
+{}
+
+/// States that after an element went each pair has the cell of the pair that it was. It does nothing.
+pub fn pairs_left(matrix: &Matrix, element: usize, p: usize, q: usize)
+    requires { IsPair (matrix.now.size - 1) p q }
+    ensures { cell_at (without matrix.now element) p q ≡ left_cell matrix.now element (p, q) }
+{}
+
 /// States that matrices are equal by `==` exactly where their judgements are the same. It does nothing.
 pub fn equal_matrices(first: &Matrix, second: &Matrix)
     ensures { IsTrue (same_judgements first.now second.now) ↔ (first.now ≡ second.now) }
@@ -57,7 +87,62 @@ pub fn met_where_rows_hold(matrix: &Matrix)
         ↔ AllByRecursion (RowHolds matrix.now w unit) (rows matrix.now) }
 {}
 
-/// States that a scale has one answer. It does nothing.
+/// States that for a scale there is one answer. It does nothing.
 pub fn one_fit(matrix: &Matrix, first: Fit, second: Fit)
     ensures { (w : List ℤ) (n : ℤ) → IsFit matrix.now w n first → IsFit matrix.now w n second → first ≡ second }
 {}
+
+/// States that for values there is an answer, and one only. It does nothing.
+pub fn one_answer(matrix: &Matrix, first: Result<Fit, TooWide>, second: Result<Fit, TooWide>)
+    ensures { (fs : List Fraction) → AreFractions fs
+        → IsAnswer matrix.now fs first → IsAnswer matrix.now fs second → first ≡ second }
+{}
+
+/// States that two writings of one scale meet the same matrices. It does nothing.
+pub fn writings_meet_alike(matrix: &Matrix)
+    ensures { (w v : List ℤ) (n k : ℤ) → pos 0 <ℤ k → SameFractions (over w n) (over v k)
+        → IsMetBy matrix.now w n → IsMetBy matrix.now v k }
+{}
+
+/// States that whether a scale is smaller than another doesn't depend on how the two are written. It does nothing.
+pub fn writings_compare_alike()
+    ensures { (w v x y : List ℤ) (n k l j : ℤ) → pos 0 <ℤ n → pos 0 <ℤ k → pos 0 <ℤ l → pos 0 <ℤ j
+        → SameFractions (over w n) (over v k) → SameFractions (over x l) (over y j)
+        → IsSmaller w n x l → IsSmaller v k y j }
+{}
+
+/// States that scales are ordered: none is smaller than itself, smaller than a smaller one is smaller, and of two scales of
+/// one matrix one is smaller, or they are the same numbers. It does nothing.
+pub fn scales_are_ordered(matrix: &Matrix)
+    ensures irreflexive { (w : List ℤ) (n : ℤ) → ¬ IsSmaller w n w n }
+    ensures transitive { (w v x : List ℤ) (n k l : ℤ) → pos 0 <ℤ n → pos 0 <ℤ k → pos 0 <ℤ l
+        → IsSmaller w n v k → IsSmaller v k x l → IsSmaller w n x l }
+    ensures total { (w v : List ℤ) (n k : ℤ) → IsScale matrix.now w n → IsScale matrix.now v k
+        → IsSmaller w n v k ⊎ SameFractions (over w n) (over v k) ⊎ IsSmaller v k w n }
+{}
+
+/// States that a matrix has at most one least scale. It does nothing.
+pub fn one_least_scale(matrix: &Matrix)
+    ensures { (w v : List ℤ) (n k : ℤ) → IsLeastScale matrix.now w n → IsLeastScale matrix.now v k
+        → SameFractions (over w n) (over v k) }
+{}
+
+/// States that the values of a scale that meets a matrix don't rise. It does nothing.
+pub fn values_fall(matrix: &Matrix)
+    ensures { (w : List ℤ) (n : ℤ) (p q : ℕ) → IsMetBy matrix.now w n → IsPair matrix.now.size p q
+        → value_at w q ≤ℤ value_at w p }
+{}
+
+/// States that zeros meet a matrix in which nothing is judged. It does nothing.
+pub fn zeros_meet_what_is_unjudged(size: usize)
+    ensures { IsMetBy (unjudged size) (replicate size (pos 0)) (pos 1) }
+{}
+
+/// States that a shift by nothing is lawful and leaves the judgements as they are. It does nothing.
+pub fn no_shift(matrix: &Matrix)
+    ensures lawful { IsLawfulShift matrix.now (replicate (length matrix.now.cells) (pos 0)) }
+    ensures same { shifted matrix.now (replicate (length matrix.now.cells) (pos 0)) ≡ matrix.now }
+{
+    // What a matrix keeps is told by its size.
+    prove!(matrix.size() >= 1);
+}

@@ -84,7 +84,11 @@ fn drop_element(cells: &mut Vec<(Range, bool)>, size: u8, p: usize)
 {
     let mut place = 0;
     for (x, y) in Pairs::of(size - 1) {
-        let from = place_of(usize::from(size), without_from(p, usize::from(x)), without_from(p, usize::from(y)));
+        let from = place_of(
+            usize::from(size),
+            without_from(p, usize::from(x)),
+            without_from(p, usize::from(y)),
+        );
         cells[place] = cells[from];
         place += 1;
     }

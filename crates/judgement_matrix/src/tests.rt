@@ -1,7 +1,8 @@
-ghost use Rattle.std.specs.Prelude.{◌≡◌, IfOk, OnOk};
+ghost use Rattle.std.specs.Prelude.{◌≡◌, ◌≤◌, ◌-◌, IfOk, OnOk};
 ghost use Rattle.judgement_matrix.specs.Matrix.{IsPair};
 
 use crate::{Fit, Matrix, Range, Tag};
+use frac128::{Frac, TooWide};
 use std::alloc::Global;
 use std::test::Fail;
 
@@ -44,35 +45,129 @@ fn ranges(rt: HostRuntime) {
 
 #[test]
 fn judgements(rt: HostRuntime) -> Result<(), Fail> {
-    let matrix = matrix_of(rt.alloc(), [Some((3, 4)), None, Some((1, 2))])?;
+    let mut matrix = matrix_of(rt.alloc(), [Some((3, 4)), None, Some((1, 2))])?;
     assert_eq!(rt; matrix.size(), 3);
     assert_eq!(rt; matrix.get(1, 2), (Range { lo: 3, hi: 4 }, true));
     assert_eq!(rt; matrix.get(1, 3), (Range::full(), false));
     assert_eq!(rt; matrix.get(2, 3), (Range { lo: 1, hi: 2 }, true));
+    matrix.clear(2, 3);
+    assert_eq!(rt; matrix, matrix_of(rt.alloc(), [Some((3, 4)), None, None])?);
+    assert_eq!(rt; matrix.copy()?, matrix);
     Ok(())
 }
 
 #[test]
 fn fits(rt: HostRuntime) -> Result<(), Fail> {
+    let wide = i128::MAX;
     let single = [Some((3, 3)), Some((4, 4)), Some((2, 2))];
     let equal = [Some((0, 0)), Some((2, 2)), Some((2, 2))];
     let several = [Some((3, 4)), None, Some((1, 2))];
+    let last = [None, None, Some((2, 2))];
+    let same = [Some((0, 0)), None, None];
     let nothing = [None, None, None];
-    for (ranges, values, want) in [
-        (single, [5, 2, 0], Fit::Meets),
-        (single, [4, 2, 0], Fit::Fails(Tag::Lower(1, 2))),
-        (equal, [2, 2, 0], Fit::Meets),
-        (equal, [3, 2, 0], Fit::Fails(Tag::Zero(1, 2))),
-        (several, [5, 2, 0], Fit::Meets),
-        (several, [6, 3, 0], Fit::Fails(Tag::Cross(1, 2, 2, 3))),
-        (nothing, [0, 0, 0], Fit::Meets),
-        (nothing, [0, 1, 0], Fit::Fails(Tag::Order(1))),
+    for (ranges, first, second, want) in [
+        (single, (11, 2), (2, 1), Ok(Fit::Meets)),
+        (single, (9, 2), (2, 1), Ok(Fit::Fails(Tag::Lower(1, 2)))),
+        (equal, (9, 4), (9, 4), Ok(Fit::Meets)),
+        (equal, (10, 4), (9, 4), Ok(Fit::Fails(Tag::Zero(1, 2)))),
+        (several, (16, 3), (13, 6), Ok(Fit::Meets)),
+        (
+            several,
+            (31, 5),
+            (3, 1),
+            Ok(Fit::Fails(Tag::Cross(1, 2, 2, 3))),
+        ),
+        (nothing, (0, 1), (0, 1), Ok(Fit::Meets)),
+        (nothing, (1, 7), (1, 6), Ok(Fit::Fails(Tag::Order(1)))),
+        (single, (wide, 1), (-wide, 1), Err(TooWide)),
+        (same, (wide, 1), (-wide, 1), Err(TooWide)),
+        (
+            last,
+            (wide, 1),
+            (-wide, 1),
+            Ok(Fit::Fails(Tag::Lower(2, 3))),
+        ),
     ] {
         let matrix = matrix_of(rt.alloc(), ranges)?;
-        let values: [i64; 3] = values;
-        assert!(rt; values[2] == 0);
-        assert!(rt; values.iter().all(|v| -1000 <= *v && *v <= 1000));
-        assert_eq!(rt; matrix.meets_whole(&values), want, "at {values:?}");
+        let values = [
+            Frac::make(first.0, first.1)?,
+            Frac::make(second.0, second.1)?,
+            Frac::make(0, 1)?,
+        ];
+        let values = &values[..];
+        assert!(rt; values[2].num() == 0);
+        assert_eq!(rt; matrix.meets(values), want, "at {values:?}");
+    }
+    Ok(())
+}
+
+// More than any place.
+const NONE: usize = 25;
+
+// The matrix of elements that bear the numbers from 1 on, but for the number `gone` and for the element at the place `new`,
+// which bears none and of whose pairs nothing is judged.
+fn numbered(alloc: Global, size: usize, gone: usize, new: usize) -> Result<Matrix, Fail>
+    requires least { 1 ≤ size }
+    requires most { size ≤ 24 }
+    ensures { IfOk result (λ matrix. matrix.size ≡ size) }
+{
+    let mut matrix = Matrix::new(alloc, size)?;
+    for p in 1..size {
+        for q in p + 1..size + 1 {
+            if p != new && q != new {
+                let category = category(number(p, gone, new), number(q, gone, new));
+                judge(&mut matrix, p, q, Some((category, category)))?;
+            }
+        }
+    }
+    Ok(matrix)
+}
+
+// The number of the element at a place.
+fn number(place: usize, gone: usize, new: usize) -> usize
+    requires { place ≤ 24 }
+    ensures { result ≤ 25 }
+{
+    let number = if place > new { place - 1 } else { place };
+    if number < gone { number } else { number + 1 }
+}
+
+// Some category for a pair of numbers, of which neighbours have others.
+fn category(p: usize, q: usize) -> u8
+    requires first { p ≤ 25 }
+    requires second { q ≤ 25 }
+    ensures { result ≤ 6 }
+{
+    ((5 * p + 3 * q) % 7) as u8
+}
+
+#[test]
+fn removals(rt: HostRuntime) -> Result<(), Fail> {
+    for (size, element) in [
+        (2, 1),
+        (2, 2),
+        (5, 1),
+        (5, 3),
+        (5, 5),
+        (24, 1),
+        (24, 12),
+        (24, 24),
+    ] {
+        let mut matrix = numbered(rt.alloc(), size, NONE, NONE)?;
+        matrix.remove(element);
+        let want = numbered(rt.alloc(), size - 1, element, NONE)?;
+        assert_eq!(rt; matrix, want, "{size} without {element}");
+    }
+    Ok(())
+}
+
+#[test]
+fn growth(rt: HostRuntime) -> Result<(), Fail> {
+    for size in [1, 2, 5, 23] {
+        let mut matrix = numbered(rt.alloc(), size, NONE, NONE)?;
+        matrix.grow()?;
+        let want = numbered(rt.alloc(), size + 1, NONE, size)?;
+        assert_eq!(rt; matrix, want, "one more than {size}");
     }
     Ok(())
 }

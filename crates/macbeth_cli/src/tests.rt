@@ -22,7 +22,7 @@ struct Row {
     output: &'static str,
 }
 
-const ROWS: [Row; 13] = [
+const ROWS: [Row; 16] = [
     Row {
         name: "fits meets",
         input: "fits c 5 2 0\n",
@@ -56,7 +56,7 @@ const ROWS: [Row; 13] = [
     Row {
         name: "zero, cross and order",
         input: "judge c A B 1\njudge c A C 0\njudge c B C 0\nfits c 1 0 0\nfits c 1 0 -1\n",
-        output: "ok\nok\nok\nfails zero \"A\" \"C\"\nrefused 3 unknown command\n",
+        output: "ok\nok\nok\nfails zero \"A\" \"C\"\nrefused 6 bad number\n",
     },
     Row {
         name: "a difference that isn't above another",
@@ -80,8 +80,23 @@ const ROWS: [Row; 13] = [
     },
     Row {
         name: "not one of the forms",
-        input: "criterion d A B\njudge c A Z 2\njudge d A B 2\njudge c A B 7\njudge c A B\nfits c 5 2\nfits c 5 2 1\nfits c 1234567890 2 0\nfits c\nquit now\nfit c 5 2 0\n",
-        output: "refused 3 unknown command\nrefused 3 unknown command\nrefused 3 unknown command\nrefused 3 unknown command\nrefused 3 unknown command\nrefused 3 unknown command\nrefused 3 unknown command\nrefused 3 unknown command\nrefused 3 unknown command\nrefused 3 unknown command\nrefused 3 unknown command\n",
+        input: "criterion d A B\njudge c A Z 2\njudge d A B 2\njudge c A B 7\njudge c A B\nfits c\nquit now\nfit c 5 2 0\n",
+        output: "refused 3 unknown command\nrefused 3 unknown command\nrefused 3 unknown command\nrefused 3 unknown command\nrefused 3 unknown command\nrefused 3 unknown command\nrefused 3 unknown command\nrefused 3 unknown command\n",
+    },
+    Row {
+        name: "fractions",
+        input: "fits c 11/2 2 0\nfits c 9/2 4/2 0/5\nfits c 12345678901 2 0\n",
+        output: "meets\nfails lower \"A\" \"B\"\nmeets\n",
+    },
+    Row {
+        name: "bad numbers before other refusals",
+        input: "fits c 5 x 0\nfits c 5/0 2 0\nfits d 5 2 1\nfits c 1 2\nfits c 5 0\nfits d 5 2 0\nfits c- 5 x\n",
+        output: "refused 6 bad number\nrefused 6 bad number\nrefused 6 bad number\nrefused 6 bad number\nrefused 3 unknown command\nrefused 3 unknown command\nrefused 3 unknown command\n",
+    },
+    Row {
+        name: "wide number",
+        input: "fits c 170141183460469231731687303715884105727 -170141183460469231731687303715884105727 0\nfits c 170141183460469231731687303715884105728 -170141183460469231731687303715884105727 0\n",
+        output: "refused 27 too wide\nrefused 6 bad number\n",
     },
     Row {
         name: "several spaces",

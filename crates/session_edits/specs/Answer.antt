@@ -1,12 +1,12 @@
 -- How an entry of the input is answered: a relation of a state, the entry, the reply and the next state.
-use Rattle.std.specs.Prelude.{◌≡◌, ℕ, ◌+◌, Bool, ◌&&◌, List, length, Option, Some, None, ℤ, pos, nat_lt, ◌==◌, MatchBool, MatchOption}
+use Rattle.std.specs.Prelude.{◌≡◌, ℕ, ◌+◌, Bool, ◌&&◌, List, length, Option, Some, None, Result, Ok, Err, nat_lt, ◌==◌, MatchBool, MatchOption}
 use Rattle.std.specs.List.{position}
-use Rattle.std.specs.Ordering.{int_eq}
 use Rattle.std.specs.Str.{bytes_eq}
+use Rattle.integers.specs.Fraction.{Fraction}
+use Rattle.frac128.specs.declared.number.TooWide.{TooWide}
 use Rattle.judgement_matrix.specs.Range.{Bounds}
 use Rattle.judgement_matrix.specs.Matrix.{judged}
-use Rattle.judgement_matrix.specs.Scale.{value_at}
-use Rattle.judgement_matrix.specs.Rows.{IsFit}
+use Rattle.judgement_matrix.specs.Values.{IsAnswer}
 use Rattle.judgement_matrix.specs.declared.tag.Fit.{Fit}
 use Rattle.judgement_matrix.specs.declared.tag.Fit.TheVariants as fit
 use Rattle.session_edits.specs.Reading.{command_of}
@@ -38,14 +38,15 @@ Judges c x y range r next =
     MatchOption (element_place c y) (Refuses 3 c r next) (λ q.
     MatchBool (nat_lt p q) (Accepts (record c { matrix = judged c.matrix (p + 1) (q + 1) range }) r next) (Refuses 13 c r next)))
 
--- as many values as elements, the last one 0
-abbrev pub is_scale : CriterionState → List ℤ → Bool
-is_scale c values = (length values == c.matrix.size) && int_eq (value_at values c.matrix.size) (pos 0)
+-- as many values as elements
+abbrev pub has_each : CriterionState → List Fraction → Bool
+has_each c values = length values == c.matrix.size
 
--- the reply for a scale that meets the judgements, or fails this row first
-abbrev pub fit_reply : CriterionState → Fit → Reply
-fit_reply c fit.Meets = reply.Meets
-fit_reply c (fit.Fails tag) = reply.Fails c.elements tag
+-- the reply for values that meet the judgements, fail this row first, or are too wide
+abbrev pub fit_reply : CriterionState → Result Fit TooWide → Reply
+fit_reply c (Ok fit.Meets) = reply.Meets
+fit_reply c (Ok (fit.Fails tag)) = reply.Fails c.elements tag
+fit_reply c (Err wide) = refused 27
 
 -- what a command does to a session
 abbrev pub Does : State → Command → Reply → State → Type 0
@@ -58,8 +59,8 @@ Does (Some c) (command.Judge name x y range) r next =
     (Refuses 3 (Some c) r next)
 Does None (command.Fits name values) r next = Refuses 3 None r next
 Does (Some c) (command.Fits name values) r next =
-    MatchBool (bytes_eq name c.name && is_scale c values)
-    ((next ≡ Some c) × ((f : Fit) × IsFit c.matrix values (pos 1) f × (r ≡ fit_reply c f)))
+    MatchBool (bytes_eq name c.name && has_each c values)
+    ((next ≡ Some c) × ((f : Result Fit TooWide) × IsAnswer c.matrix values f × (r ≡ fit_reply c f)))
     (Refuses 3 (Some c) r next)
 Does state command.Quit r next = Accepts state r next
 

@@ -16,7 +16,9 @@ refused number = reply.Refused number detail.None
 abbrev pub refusal_words : ℕ → List ℕ
 refusal_words number =
     if number == 1 then codes "line too long"
-    else (if number == 3 then codes "unknown command" else codes "against the listed order")
+    else (if number == 3 then codes "unknown command"
+    else (if number == 6 then codes "bad number"
+    else (if number == 27 then codes "too wide" else codes "against the listed order")))
 
 -- a name between quotes; places count from 1
 abbrev pub quoted : List (List ℕ) → ℕ → List ℕ
@@ -45,6 +47,6 @@ reply_text r = reply_words r ++ 10 ∷ []
 -- what has a text: a refusal by a number that there is, a tag of the names beside it
 abbrev pub IsPrintable : Reply → Type 0
 IsPrintable reply.Ok = Unit {0}
-IsPrintable (reply.Refused number detail) = (number ≡ 1) ⊎ (number ≡ 3) ⊎ (number ≡ 13)
+IsPrintable (reply.Refused number detail) = (number ≡ 1) ⊎ (number ≡ 3) ⊎ (number ≡ 6) ⊎ (number ≡ 13) ⊎ (number ≡ 27)
 IsPrintable reply.Meets = Unit {0}
 IsPrintable (reply.Fails names tag) = IsTagAmong (length names) tag

@@ -1,6 +1,6 @@
 //! Commands, and what a line may be.
 use crate::name::Name;
-use frac128::List;
+use frac128::{Frac, List};
 use judgement_matrix::Range;
 
 /// What a session can be asked for.
@@ -10,8 +10,8 @@ pub enum Command {
     Criterion(Name, List<Name>),
     /// The difference between two elements of a criterion is judged.
     Judge(Name, Name, Name, Range),
-    /// Whether the scale of these values, one for each element, meets the judgements of a criterion.
-    Fits(Name, List<i64>),
+    /// Whether the scale of these values, one for each element and the last one 0, meets the judgements of a criterion.
+    Fits(Name, List<Frac>),
     /// The end of the session.
     Quit,
 }

@@ -1,20 +1,21 @@
 //! The criterion of a session.
-ghost use Rattle.std.specs.Prelude.{◌≡◌, ◌+◌, ◌<◌, ◌≤◌, true, length, pos, IfOk, IfSome, MatchOption};
+ghost use Rattle.std.specs.Prelude.{◌≡◌, ◌+◌, ◌<◌, ◌≤◌, true, length, Result, IfOk, IfSome, MatchOption};
 ghost use Rattle.std.specs.List.{position};
 ghost use Rattle.std.specs.Str.{bytes_eq};
 ghost use Rattle.judgement_matrix.specs.Matrix.{judged};
 ghost use Rattle.session_edits.specs.Reading.{are_elements};
 ghost use Rattle.session_edits.specs.State.{IsCriterion, new_criterion};
-ghost use Rattle.session_edits.specs.Answer.{element_place, is_scale, fit_reply};
+ghost use Rattle.session_edits.specs.Answer.{element_place, has_each, fit_reply};
 ghost use Rattle.session_edits.specs.Reply.{IsPrintable};
-ghost use Rattle.judgement_matrix.specs.Rows.{IsFit};
-ghost use Rattle.judgement_matrix.specs.Scale.{AllBounded};
+ghost use Rattle.judgement_matrix.specs.Values.{IsAnswer};
+ghost use Rattle.frac128.specs.declared.number.TooWide.{TooWide};
+ghost use Rattle.session_edits.specs.Words.{ends_in_zero};
 ghost use Rattle.judgement_matrix.specs.declared.tag.Fit.{Fit};
 
 use crate::NoMemory;
 use crate::name::Name;
-use crate::reply::Reply;
-use frac128::List;
+use crate::reply::{Detail, Reply, TOO_WIDE};
+use frac128::{Frac, List};
 use judgement_matrix::{Fit, Matrix, Range};
 use std::alloc::Global;
 use std::marker::Model;
@@ -75,29 +76,31 @@ impl Criterion {
         self.matrix.set(upper + 1, lower + 1, range);
     }
 
-    /// Whether there is a value for each element, the last one 0.
-    pub fn is_scale(&self, values: &[i64]) -> bool
-        ensures { result ≡ is_scale self.now values.now }
+    /// Whether there is a value for each element.
+    pub fn has_each(&self, values: &[Frac]) -> bool
+        ensures { result ≡ has_each self.now values.now }
     {
-        match values.last() {
-            Some(last) => values.len() == self.matrix.size() && *last == 0,
-            None => false,
-        }
+        values.len() == self.matrix.size()
     }
 
-    /// The reply to these values, one for each element.
-    pub fn fit(&self, alloc: Global, values: &[i64]) -> Result<Reply, NoMemory>
-        requires scale { is_scale self.now values.now ≡ true }
-        requires bounded { AllBounded values.now }
-        ensures fit { IfOk result (λ reply. (f : Fit) × IsFit self.now.matrix values.now (pos 1) f × (reply ≡ fit_reply self.now f)) }
+    /// The reply to these values, one for each element, the last one 0.
+    pub fn fit(&self, alloc: Global, values: &[Frac]) -> Result<Reply, NoMemory>
+        requires each { has_each self.now values.now ≡ true }
+        requires last { ends_in_zero values.now ≡ true }
+        ensures fit { IfOk result (λ reply.
+            (f : Result Fit TooWide) × IsAnswer self.now.matrix values.now f × (reply ≡ fit_reply self.now f)) }
         ensures printable { IfOk result IsPrintable }
     {
-        match self.matrix.meets_whole(values) {
-            Fit::Meets => Ok(Reply::Meets),
-            Fit::Fails(tag) => {
+        match self.matrix.meets(values) {
+            Ok(Fit::Meets) => Ok(Reply::Meets),
+            Ok(Fit::Fails(tag)) => {
                 let names = copied(alloc, self.elements.as_slice())?;
                 Ok(Reply::Fails { names, tag })
             }
+            Err(_) => Ok(Reply::Refused {
+                number: TOO_WIDE,
+                detail: Detail::None,
+            }),
         }
     }
 }

@@ -16,7 +16,9 @@ pub use command::{Command, Parsed};
 pub use name::Name;
 pub use print::text;
 pub use read::read_command;
-pub use reply::{AGAINST_THE_ORDER, Detail, LINE_TOO_LONG, Reply, UNKNOWN_COMMAND};
+pub use reply::{
+    AGAINST_THE_ORDER, BAD_NUMBER, Detail, LINE_TOO_LONG, Reply, TOO_WIDE, UNKNOWN_COMMAND,
+};
 pub use session::Session;
 
 /// Why a call that takes memory gave none of its other answers.

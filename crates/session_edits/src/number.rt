@@ -1,12 +1,10 @@
 //! Numbers in words.
-ghost use Rattle.std.specs.Prelude.{◌≡◌, ◌<◌, ◌≤◌, ◌^◌, length, true, pos, neg_ℤ, ◌≤ℤ◌, IfSome};
-ghost use Rattle.std.specs.List.{list_all};
-ghost use Rattle.std.specs.Char.{is_ascii_digit};
-ghost use Rattle.std.specs.Str.Parse.{digits_value};
-ghost use Rattle.session_edits.specs.Words.{category_of, magnitude_of, number_of};
+ghost use Rattle.std.specs.Prelude.{◌≡◌, length, IfSome, pos};
+ghost use Rattle.std.specs.Ordering.{int_eq};
+ghost use Rattle.integers.specs.Fraction.{IsFraction};
+ghost use Rattle.session_edits.specs.Words.{category_of, read_fraction, ends_in_zero};
 
-/// The most digits of a number.
-const MOST_DIGITS: usize = 9;
+use frac128::{Frac, read_frac};
 
 /// The category that the word names by its digit.
 pub fn category(word: &[u8]) -> Option<u8>
@@ -18,46 +16,20 @@ pub fn category(word: &[u8]) -> Option<u8>
     }
 }
 
-/// The whole number that the word is.
-pub fn number(word: &[u8]) -> Option<i64>
-    ensures value { result ≡ number_of word.now }
-    ensures bounded { IfSome result (λ v. (neg_ℤ (pos 1000000000) ≤ℤ v) × (v ≤ℤ pos 1000000000)) }
+/// The fraction that the word writes, where its numbers are in the range of fractions.
+pub fn fraction(word: &[u8]) -> Option<Frac>
+    ensures value { result ≡ read_fraction word.now }
+    ensures positive { IfSome result IsFraction }
 {
-    let (first, digits) = word.split_first()?;
-    if *first == b'-' {
-        let size = magnitude(digits)?;
-        Some(-i64::from(size))
-    } else {
-        let size = magnitude(word)?;
-        Some(i64::from(size))
-    }
+    read_frac(word).ok()
 }
 
-fn magnitude(digits: &[u8]) -> Option<u32>
-    ensures value { result ≡ magnitude_of digits.now }
-    ensures below { IfSome result (λ n. n < 1000000000) }
+/// Whether the last of the values is 0.
+pub fn ends_in_zero(values: &[Frac]) -> bool
+    ensures { result ≡ ends_in_zero values.now }
 {
-    if digits.is_empty() || digits.len() > MOST_DIGITS || !are_digits(digits) {
-        return None;
+    match values.last() {
+        Some(last) => last.num() == 0,
+        None => true,
     }
-    Some(value(digits))
-}
-
-fn are_digits(digits: &[u8]) -> bool
-    ensures { result ≡ list_all is_ascii_digit digits.now }
-{
-    digits.iter().all(|digit| digit.is_ascii_digit())
-}
-
-fn value(digits: &[u8]) -> u32
-    requires few { length digits.now ≤ 9 }
-    requires each { list_all is_ascii_digit digits.now ≡ true }
-    ensures value { result ≡ digits_value 10 digits.now }
-    ensures below { result < 1000000000 }
-{
-    let mut value = 0u32;
-    for digit in digits {
-        value = 10 * value + u32::from(*digit - b'0');
-    }
-    value
 }

@@ -7,7 +7,7 @@ ghost use Rattle.session_edits.specs.Reply.{reply_text, reply_words, tag_text, p
 
 use crate::NoMemory;
 use crate::name::Name;
-use crate::reply::{LINE_TOO_LONG, Reply, UNKNOWN_COMMAND};
+use crate::reply::{BAD_NUMBER, LINE_TOO_LONG, Reply, TOO_WIDE, UNKNOWN_COMMAND};
 use judgement_matrix::Tag;
 use std::alloc::Global;
 
@@ -53,6 +53,8 @@ fn refusal(number: u8) -> &'static str
     match number {
         LINE_TOO_LONG => "line too long",
         UNKNOWN_COMMAND => "unknown command",
+        BAD_NUMBER => "bad number",
+        TOO_WIDE => "too wide",
         _ => "against the listed order",
     }
 }

@@ -2,18 +2,18 @@
 ghost use Rattle.std.specs.Prelude.{◌≡◌, IfOk, IfSome, Some, None, [], ◌∷◌, if◌then◌else◌, ◌<◌, ◌≤◌, length};
 ghost use Rattle.std.specs.List.{list_all, list_any};
 ghost use Rattle.std.specs.Str.{bytes_eq};
-ghost use Rattle.std.specs.Option.{option_map};
-ghost use Rattle.judgement_matrix.specs.Scale.{AllBounded};
-ghost use Rattle.session_edits.specs.Words.{words, is_name, is_distinct, category_of, numbers_of};
+ghost use Rattle.std.specs.Option.{option_map, option_and_then};
+ghost use Rattle.integers.specs.Fraction.{AreFractions};
+ghost use Rattle.session_edits.specs.Words.{words, is_name, is_distinct, category_of, read_fractions, ends_in_zero};
 ghost use Rattle.session_edits.specs.Reading.{IsReadable, command_of, are_elements, criterion_of, judge_of, fits_of, quit_of};
 
 use crate::NoMemory;
 use crate::command::{Command, Parsed};
 use crate::name::Name;
-use crate::number::{category, number};
-use crate::reply::UNKNOWN_COMMAND;
+use crate::number::{category, ends_in_zero, fraction};
+use crate::reply::{BAD_NUMBER, UNKNOWN_COMMAND};
 use crate::word::split_word;
-use frac128::List;
+use frac128::{Frac, List};
 use judgement_matrix::{LIMIT, Range};
 use std::alloc::Global;
 
@@ -183,27 +183,39 @@ fn read_fits(alloc: Global, rest: &[u8]) -> Result<Parsed, NoMemory>
     if split_word(rest).is_none() {
         return Ok(unknown());
     }
-    match read_numbers(alloc, rest)? {
+    match read_values(alloc, rest)? {
         Some(values) => Ok(Parsed::Do(Command::Fits(name, values))),
-        None => Ok(unknown()),
+        None => Ok(Parsed::Refused(BAD_NUMBER)),
     }
 }
 
-/// The words as whole numbers, where each is one.
-fn read_numbers(alloc: Global, rest: &[u8]) -> Result<Option<List<i64>>, NoMemory>
-    ensures values { IfOk result (λ values. values ≡ numbers_of (words rest.now)) }
-    ensures bounded { IfOk result (λ values. IfSome values AllBounded) }
+/// The words as the values of a scale, where each is a number and the last one is 0.
+fn read_values(alloc: Global, rest: &[u8]) -> Result<Option<List<Frac>>, NoMemory>
+    ensures values { IfOk result (λ values. values ≡ option_and_then (λ fs. if ends_in_zero fs then Some fs else None)
+        (read_fractions (words rest.now))) }
+    ensures positive { IfOk result (λ values. IfSome values AreFractions) }
+{
+    match read_fractions(alloc, rest)? {
+        Some(values) if ends_in_zero(&values) => Ok(Some(List::make(values))),
+        _ => Ok(None),
+    }
+}
+
+/// The words as fractions, where each is one.
+fn read_fractions(alloc: Global, rest: &[u8]) -> Result<Option<Vec<Frac>>, NoMemory>
+    ensures values { IfOk result (λ values. option_map (λ v. v.items) values ≡ read_fractions (words rest.now)) }
+    ensures positive { IfOk result (λ values. IfSome values (λ v. AreFractions v.items)) }
 {
     let mut values = Vec::new(alloc);
     let mut rest = rest;
     while let Some((word, after)) = split_word(rest) {
-        let Some(value) = number(word) else {
+        let Some(value) = fraction(word) else {
             return Ok(None);
         };
         values.push(value)?;
         rest = after;
     }
-    Ok(Some(List::make(values)))
+    Ok(Some(values))
 }
 
 #[tactic(auto, unfolding(crate::specs::Reading::quit_of))]

@@ -8,7 +8,11 @@ pub const LINE_TOO_LONG: u8 = 1;
 
 pub const UNKNOWN_COMMAND: u8 = 3;
 
+pub const BAD_NUMBER: u8 = 6;
+
 pub const AGAINST_THE_ORDER: u8 = 13;
+
+pub const TOO_WIDE: u8 = 27;
 
 /// What a refusal says besides its number.
 #[derive(Debug, Drop)]

@@ -1,6 +1,6 @@
 //! A session: its state, and what a command does to it.
 ghost use Rattle.std.specs.Prelude.{◌≡◌, true, None, Some, IfOk, OnErr};
-ghost use Rattle.judgement_matrix.specs.Scale.{AllBounded};
+ghost use Rattle.session_edits.specs.Words.{ends_in_zero};
 ghost use Rattle.session_edits.specs.declared.command.Command.TheVariants as command;
 ghost use Rattle.session_edits.specs.Reading.{IsCommand, are_elements};
 ghost use Rattle.session_edits.specs.Reply.{refused, IsPrintable};
@@ -11,7 +11,7 @@ use crate::command::Command;
 use crate::criterion::Criterion;
 use crate::name::Name;
 use crate::reply::{AGAINST_THE_ORDER, Detail, Reply, UNKNOWN_COMMAND};
-use frac128::List;
+use frac128::{Frac, List};
 use judgement_matrix::Range;
 use std::alloc::Global;
 use std::marker::Model;
@@ -86,15 +86,15 @@ impl Session {
         }
     }
 
-    fn fits(&self, name: &Name, values: &[i64]) -> Result<Reply, NoMemory>
-        requires { AllBounded values.now }
+    fn fits(&self, name: &Name, values: &[Frac]) -> Result<Reply, NoMemory>
+        requires { ends_in_zero values.now ≡ true }
         ensures answer { IfOk result (λ reply. Does self.now (command.Fits name.now values.now) reply self.now) }
         ensures printable { IfOk result IsPrintable }
     {
         match &self.criterion {
             None => Ok(refusal(UNKNOWN_COMMAND)),
             Some(criterion) => {
-                if criterion.is_named(name) && criterion.is_scale(values) {
+                if criterion.is_named(name) && criterion.has_each(values) {
                     criterion.fit(self.alloc, values)
                 } else {
                     Ok(refusal(UNKNOWN_COMMAND))

@@ -1,10 +1,10 @@
-use Rattle.std.proofs.Common.{◌≡◌, ◌-◌, map, find, pos}
+use Rattle.std.proofs.Common.{◌≡◌, ◌-◌, map}
 use Rattle.std.specs.List.{range_with_len}
 use Rattle.judgement_matrix.specs.declared.tag.Tag.TheVariants.{Order}
 use Rattle.judgement_matrix.specs.Rows.{order_rows}
-use Rattle.judgement_matrix.specs.Walk.{row_fails}
+use Rattle.judgement_matrix.specs.Walk.{row_fails, first_stop}
 use Rattle.judgement_matrix.proofs.matrix.Matrix.first_order.Given as goal
 
 abbrev pub invariant-loop-p : goal.invariant-loop-p
 invariant-loop-p l =
-    find (row_fails l.self l.values (pos 1)) (map (λ p. Order p) (range_with_len l.p (l.size - l.p))) ≡ find (row_fails l.self l.values (pos 1)) (order_rows l.self)
+    first_stop (row_fails l.self l.values) (map (λ p. Order p) (range_with_len l.p (l.size - l.p))) ≡ first_stop (row_fails l.self l.values) (order_rows l.self)
