@@ -34,7 +34,8 @@ pub fn closed_problem(
     requires apart { a ≢ b }
     requires a { (1 ≤ a) × (a ≤ matrix.now.size) }
     requires b { (1 ≤ b) × (b ≤ matrix.now.size) }
-    ensures { IfOk result (λ problem. problem ≡ closed_problem_of matrix.now good neutral reach a b) }
+    ensures { IfOk result (λ problem. problem
+        ≡ closed_problem_of matrix.now good neutral reach a b) }
 {
     let n = matrix.size();
     let tags = closed_tags(alloc, matrix)?;
@@ -55,7 +56,8 @@ fn push_compared(
 ) -> Result<(), NoMemory>
     requires among { All (IsTagAmong matrix.now.size) tags.now }
     requires before { All (IsRow matrix.now.size) rows.old.items }
-    ensures rows { IfOk result (λ _. rows.new.items ≡ rows.old.items ++ map (closed_row_of matrix.now) tags.now) }
+    ensures rows { IfOk result (λ _. rows.new.items
+        ≡ rows.old.items ++ map (closed_row_of matrix.now) tags.now) }
     ensures fit { IfOk result (λ _. All (IsRow matrix.now.size) rows.new.items) }
 {
     for tag in tags {
@@ -82,7 +84,8 @@ fn closed_row(alloc: Global, matrix: &Matrix, tag: Tag) -> Result<Row, NoMemory>
 // Adds the coefficients of a tag's constraint.
 fn push_coefs(coefs: &mut Vec<i128>, matrix: &Matrix, tag: Tag) -> Result<(), NoMemory>
     requires { IsTagAmong matrix.now.size tag }
-    ensures { IfOk result (λ _. coefs.new.items ≡ coefs.old.items ++ (row_of matrix.now tag).coefs) }
+    ensures { IfOk result (λ _. coefs.new.items
+        ≡ coefs.old.items ++ (row_of matrix.now tag).coefs) }
 {
     let n = matrix.size();
     match tag {
@@ -119,7 +122,8 @@ fn push_anchors(
 fn push_reaches(alloc: Global, rows: &mut Vec<Row>, n: usize, reach: u32) -> Result<(), NoMemory>
     requires least { 2 ≤ n }
     requires most { reach ≤ 1000000 }
-    ensures { IfOk result (λ _. rows.new.items ≡ rows.old.items ++ reach_up n reach ∷ reach_down n reach ∷ []) }
+    ensures { IfOk result (λ _. rows.new.items
+        ≡ rows.old.items ++ reach_up n reach ∷ reach_down n reach ∷ []) }
 {
     rows.push(difference_row(alloc, n, (1, n), 1, i128::from(reach))?)?;
     rows.push(opposite_row(alloc, n, (1, n), -1, -i128::from(reach))?)?;
@@ -135,7 +139,8 @@ fn difference_row(
     bound: i128,
 ) -> Result<Row, NoMemory>
     requires pair { IsPair n pair.0 pair.1 }
-    ensures { IfOk result (λ row. row ≡ record { coefs = gap_coefs n pair.0 pair.1 ++ room ∷ []; bound = bound }) }
+    ensures { IfOk result (λ row. row
+        ≡ record { coefs = gap_coefs n pair.0 pair.1 ++ room ∷ []; bound = bound }) }
 {
     let mut coefs = Vec::new(alloc);
     push_difference(&mut coefs, n, pair.0, pair.1)?;

@@ -42,7 +42,8 @@ pub fn problem(alloc: Global, matrix: &Matrix) -> Result<Problem, NoMemory>
 // Each row with its tag.
 fn tagged(alloc: Global, matrix: &Matrix, tags: &[Tag]) -> Result<Vec<(Tag, Row)>, NoMemory>
     requires { All (IsTagAmong matrix.now.size) tags.now }
-    ensures { IfOk result (λ rows. rows.items ≡ map (λ tag. (tag, row_of matrix.now tag)) tags.now) }
+    ensures { IfOk result (λ rows. rows.items
+        ≡ map (λ tag. (tag, row_of matrix.now tag)) tags.now) }
 {
     let mut rows = Vec::new(alloc);
     for tag in tags {
@@ -100,7 +101,8 @@ fn difference_row(alloc: Global, n: usize, p: u8, q: u8, bound: u8) -> Result<Ro
 // The difference of the elements is at most 0.
 fn opposite_row(alloc: Global, n: usize, p: u8, q: u8) -> Result<Row, NoMemory>
     requires { IsPair n p q }
-    ensures row { IfOk result (λ row. row ≡ record { coefs = opposite (gap_coefs n p q); bound = pos 0 }) }
+    ensures row { IfOk result (λ row. row
+        ≡ record { coefs = opposite (gap_coefs n p q); bound = pos 0 }) }
     ensures fits { IfOk result (IsRow (n - 1)) }
 {
     let mut coefs = Vec::new(alloc);

@@ -17,7 +17,8 @@ use judgement_matrix::Matrix;
 /// meets the matrix, over any denominator, and that gaps and scales make each other. It does nothing.
 pub fn points_are_scales(matrix: &Matrix)
     requires { 2 ≤ matrix.now.size }
-    ensures points { (x : List ℤ) (n : ℤ) → IsFeasible (problem_of matrix.now) x n ↔ IsMetBy matrix.now (scale_of x) n }
+    ensures points { (x : List ℤ) (n : ℤ)
+        → IsFeasible (problem_of matrix.now) x n ↔ IsMetBy matrix.now (scale_of x) n }
     ensures scales { (w : List ℤ) (n : ℤ) → IsScale matrix.now w n → scale_of (gaps_of w) ≡ w }
     ensures gaps { (x : List ℤ) → gaps_of (scale_of x) ≡ x }
 {}
@@ -27,10 +28,13 @@ pub fn points_are_scales(matrix: &Matrix)
 /// nothing.
 pub fn least_point_is_least_scale(matrix: &Matrix)
     requires { 2 ≤ matrix.now.size }
-    ensures order { (x : List ℤ) (n : ℤ) (y : List ℤ) (k : ℤ) → IsFeasible (problem_of matrix.now) x n → IsFeasible (problem_of matrix.now) y k
-        → LexLess (cost_and_numbers (problem_of matrix.now) x n) (cost_and_numbers (problem_of matrix.now) y k)
+    ensures order { (x : List ℤ) (n : ℤ) (y : List ℤ) (k : ℤ)
+        → IsFeasible (problem_of matrix.now) x n → IsFeasible (problem_of matrix.now) y k
+        → LexLess (cost_and_numbers (problem_of matrix.now) x n)
+        (cost_and_numbers (problem_of matrix.now) y k)
         ↔ IsSmaller (scale_of x) n (scale_of y) k }
-    ensures least { (x : List ℤ) (n : ℤ) → IsLeast (problem_of matrix.now) x n ↔ IsLeastScale matrix.now (scale_of x) n }
+    ensures least { (x : List ℤ) (n : ℤ)
+        → IsLeast (problem_of matrix.now) x n ↔ IsLeastScale matrix.now (scale_of x) n }
     ensures nothing { IsInfeasible (problem_of matrix.now) ↔ IsInconsistent matrix.now }
 {}
 
@@ -65,7 +69,9 @@ pub fn closed_points_are_closed_scales(
     b: usize,
 )
     requires { IsPair matrix.now.size good neutral }
-    ensures points { (x : List ℤ) (r n : ℤ) → IsFeasible (closed_problem_of matrix.now good neutral reach a b) (x ++ r ∷ []) n
+    ensures points { (x : List ℤ) (r n : ℤ)
+        → IsFeasible (closed_problem_of matrix.now good neutral reach a b) (x ++ r ∷ []) n
         ↔ IsClosedScale matrix.now good neutral reach (scale_of x) r n }
-    ensures units { (w : List ℤ) (u : ℤ) → pos 0 ≤ℤ u → IsMetInUnit matrix.now u w → IsMetInUnit matrix.now (pos 0) w }
+    ensures units { (w : List ℤ) (u : ℤ) → pos 0 ≤ℤ u
+        → IsMetInUnit matrix.now u w → IsMetInUnit matrix.now (pos 0) w }
 {}

@@ -42,7 +42,8 @@ pub(crate) fn under_each(
     pairs: &[(u8, u8)],
 ) -> Result<Vec<List<(u8, u8)>>, NoMemory>
     requires { ArePairs matrix.now.size pairs.now }
-    ensures { IfOk result (λ lists. lists.items ≡ map (λ (i : ℕ). under matrix.now pairs.now i) (numbers_from 0 7)) }
+    ensures { IfOk result (λ lists. lists.items
+        ≡ map (λ (i : ℕ). under matrix.now pairs.now i) (numbers_from 0 7)) }
 {
     let mut lists = Vec::new(alloc);
     for category in 0..7 {
@@ -76,7 +77,8 @@ fn push_under(
     category: u8,
 ) -> Result<(), NoMemory>
     requires { IsPair matrix.now.size pair.0 pair.1 }
-    ensures { IfOk result (λ _. some.new.items ≡ some.old.items ++ under matrix.now (pair ∷ []) category) }
+    ensures { IfOk result (λ _. some.new.items
+        ≡ some.old.items ++ under matrix.now (pair ∷ []) category) }
 {
     if range(matrix, pair).hi < category {
         some.push(pair)?;

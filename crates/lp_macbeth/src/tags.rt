@@ -52,7 +52,8 @@ pub(crate) fn closed_tags(alloc: Global, matrix: &Matrix) -> Result<Vec<Tag>, No
 #[tactic(auto, using(crate::proofs::TagLemmas::lower_joins))]
 fn push_lower(tags: &mut Vec<Tag>, matrix: &Matrix, pairs: &[(u8, u8)]) -> Result<(), NoMemory>
     requires { ArePairs matrix.now.size pairs.now }
-    ensures { IfOk result (λ _. tags.new.items ≡ tags.old.items ++ lower_rows_of matrix.now pairs.now) }
+    ensures { IfOk result (λ _. tags.new.items
+        ≡ tags.old.items ++ lower_rows_of matrix.now pairs.now) }
 {
     for pair in pairs {
         push_lower_of(tags, matrix, *pair)?;
@@ -63,7 +64,8 @@ fn push_lower(tags: &mut Vec<Tag>, matrix: &Matrix, pairs: &[(u8, u8)]) -> Resul
 // Adds the pair, if its range begins at 1 or above.
 fn push_lower_of(tags: &mut Vec<Tag>, matrix: &Matrix, pair: (u8, u8)) -> Result<(), NoMemory>
     requires { IsPair matrix.now.size pair.0 pair.1 }
-    ensures { IfOk result (λ _. tags.new.items ≡ tags.old.items ++ lower_rows_of matrix.now (pair ∷ [])) }
+    ensures { IfOk result (λ _. tags.new.items
+        ≡ tags.old.items ++ lower_rows_of matrix.now (pair ∷ [])) }
 {
     if range(matrix, pair).lo >= 1 {
         tags.push(Tag::Lower(pair.0, pair.1))?;
@@ -75,7 +77,8 @@ fn push_lower_of(tags: &mut Vec<Tag>, matrix: &Matrix, pair: (u8, u8)) -> Result
 #[tactic(auto, using(crate::proofs::TagLemmas::zero_joins))]
 fn push_zero(tags: &mut Vec<Tag>, matrix: &Matrix, pairs: &[(u8, u8)]) -> Result<(), NoMemory>
     requires { ArePairs matrix.now.size pairs.now }
-    ensures { IfOk result (λ _. tags.new.items ≡ tags.old.items ++ zero_rows_of matrix.now pairs.now) }
+    ensures { IfOk result (λ _. tags.new.items
+        ≡ tags.old.items ++ zero_rows_of matrix.now pairs.now) }
 {
     for pair in pairs {
         push_zero_of(tags, matrix, *pair)?;
@@ -86,7 +89,8 @@ fn push_zero(tags: &mut Vec<Tag>, matrix: &Matrix, pairs: &[(u8, u8)]) -> Result
 // Adds the pair, if its range is 0 alone.
 fn push_zero_of(tags: &mut Vec<Tag>, matrix: &Matrix, pair: (u8, u8)) -> Result<(), NoMemory>
     requires { IsPair matrix.now.size pair.0 pair.1 }
-    ensures { IfOk result (λ _. tags.new.items ≡ tags.old.items ++ zero_rows_of matrix.now (pair ∷ [])) }
+    ensures { IfOk result (λ _. tags.new.items
+        ≡ tags.old.items ++ zero_rows_of matrix.now (pair ∷ [])) }
 {
     if range(matrix, pair).hi == 0 {
         tags.push(Tag::Zero(pair.0, pair.1))?;
@@ -102,7 +106,8 @@ fn push_cross(
     pairs: &[(u8, u8)],
 ) -> Result<(), NoMemory>
     requires { ArePairs matrix.now.size pairs.now }
-    ensures { IfOk result (λ _. tags.new.items ≡ tags.old.items ++ cross_rows_of matrix.now pairs.now pairs.now) }
+    ensures { IfOk result (λ _. tags.new.items
+        ≡ tags.old.items ++ cross_rows_of matrix.now pairs.now pairs.now) }
 {
     let under = under_each(alloc, matrix, pairs)?;
     for pair in pairs {

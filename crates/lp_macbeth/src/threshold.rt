@@ -98,7 +98,10 @@ fn below_row(alloc: Global, n: usize, p: u8, q: u8, hi: u8) -> Result<Row, NoMem
     requires pair { IsPair n p q }
     requires most { hi ≤ 5 }
     ensures row { IfOk result (λ row. row
-        ≡ record { coefs = opposite (gap_coefs n p q) ++ threshold hi (pos 1); bound = neg_ℤ (pos hi) }) }
+        ≡ record {
+          coefs = opposite (gap_coefs n p q) ++ threshold hi (pos 1);
+          bound = neg_ℤ (pos hi);
+        }) }
     ensures fits { IfOk result (IsRow (n - 1 + 5)) }
 {
     let mut coefs = Vec::new(alloc);

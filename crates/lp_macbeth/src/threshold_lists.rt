@@ -33,7 +33,8 @@ fn push_at(
     pairs: &[(u8, u8)],
 ) -> Result<(), NoMemory>
     requires { ArePairs matrix.now.size pairs.now }
-    ensures { IfOk result (λ _. tags.new.items ≡ tags.old.items ++ at_rows_of matrix.now pairs.now) }
+    ensures { IfOk result (λ _. tags.new.items
+        ≡ tags.old.items ++ at_rows_of matrix.now pairs.now) }
 {
     for pair in pairs {
         push_at_of(tags, matrix, *pair)?;
@@ -44,7 +45,8 @@ fn push_at(
 // Adds the pair, if its range begins at 1 or above.
 fn push_at_of(tags: &mut Vec<ThresholdTag>, matrix: &Matrix, pair: (u8, u8)) -> Result<(), NoMemory>
     requires { IsPair matrix.now.size pair.0 pair.1 }
-    ensures { IfOk result (λ _. tags.new.items ≡ tags.old.items ++ at_rows_of matrix.now (pair ∷ [])) }
+    ensures { IfOk result (λ _. tags.new.items
+        ≡ tags.old.items ++ at_rows_of matrix.now (pair ∷ [])) }
 {
     if range(matrix, pair).lo >= 1 {
         tags.push(ThresholdTag::At(pair.0, pair.1))?;
@@ -60,7 +62,8 @@ fn push_equal(
     pairs: &[(u8, u8)],
 ) -> Result<(), NoMemory>
     requires { ArePairs matrix.now.size pairs.now }
-    ensures { IfOk result (λ _. tags.new.items ≡ tags.old.items ++ equal_rows_of matrix.now pairs.now) }
+    ensures { IfOk result (λ _. tags.new.items
+        ≡ tags.old.items ++ equal_rows_of matrix.now pairs.now) }
 {
     for pair in pairs {
         push_equal_of(tags, matrix, *pair)?;
@@ -75,7 +78,8 @@ fn push_equal_of(
     pair: (u8, u8),
 ) -> Result<(), NoMemory>
     requires { IsPair matrix.now.size pair.0 pair.1 }
-    ensures { IfOk result (λ _. tags.new.items ≡ tags.old.items ++ equal_rows_of matrix.now (pair ∷ [])) }
+    ensures { IfOk result (λ _. tags.new.items
+        ≡ tags.old.items ++ equal_rows_of matrix.now (pair ∷ [])) }
 {
     if range(matrix, pair).hi == 0 {
         tags.push(ThresholdTag::Zero(pair.0, pair.1))?;
@@ -91,7 +95,8 @@ fn push_below(
     pairs: &[(u8, u8)],
 ) -> Result<(), NoMemory>
     requires { ArePairs matrix.now.size pairs.now }
-    ensures { IfOk result (λ _. tags.new.items ≡ tags.old.items ++ below_rows_of matrix.now pairs.now) }
+    ensures { IfOk result (λ _. tags.new.items
+        ≡ tags.old.items ++ below_rows_of matrix.now pairs.now) }
 {
     for pair in pairs {
         push_below_of(tags, matrix, *pair)?;
@@ -106,7 +111,8 @@ fn push_below_of(
     pair: (u8, u8),
 ) -> Result<(), NoMemory>
     requires { IsPair matrix.now.size pair.0 pair.1 }
-    ensures { IfOk result (λ _. tags.new.items ≡ tags.old.items ++ below_rows_of matrix.now (pair ∷ [])) }
+    ensures { IfOk result (λ _. tags.new.items
+        ≡ tags.old.items ++ below_rows_of matrix.now (pair ∷ [])) }
 {
     let hi = range(matrix, pair).hi;
     if 1 <= hi && hi <= 5 {

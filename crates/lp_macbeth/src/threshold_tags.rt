@@ -1,9 +1,5 @@
 //! The constraints of the threshold problem by name, in their order.
 
-ghost use Rattle.std.specs.Prelude.{◌≡◌, ◌++◌, ◌∷◌, [], ◌&&◌, ◌==◌, nat_le, All, IfOk};
-
-use crate::pairs::{pairs, range};
-
 /// One constraint of a threshold problem. Positions of elements count from 1, thresholds from 1 to 5.
 #[derive(Clone, Copy, Debug, PartialEq, Eq)]
 pub enum ThresholdTag {
