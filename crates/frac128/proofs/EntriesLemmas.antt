@@ -17,7 +17,7 @@ use Rattle.frac128.proofs.ProblemLaws.{coefs_on}
 -- ---- the entries
 
 -- what holds without a weight where it is 0, and with it, holds of the entries with it
-entries_cases : (P : List (ℕ × ℤ) → Type 0) (i : ℕ) (w : ℤ) (ws : List ℤ)
+pub entries_cases : (P : List (ℕ × ℤ) → Type 0) (i : ℕ) (w : ℤ) (ws : List ℤ)
     → (w ≡ pos 0 → P (entries_from (suc i) ws)) → P ((i, w) ∷ entries_from (suc i) ws) → P (entries_from i (w ∷ ws))
 entries_cases P i w ws without with_it = step (int_eq w (pos 0)) refl
   where

@@ -36,10 +36,10 @@ end_of (Least point value cert) = Optimal
 end_of (Nothing cert) = Empty
 
 -- weights of quantities, with each column's number at the place of its quantity
-abbrev pub spread : List ℕ → List ℤ → List ℤ → List ℤ
-spread [] ys weights = weights
-spread (c ∷ cs) [] weights = weights
-spread (c ∷ cs) (y ∷ ys) weights = spread cs ys (set weights c y)
+abbrev pub spread_weights : List ℕ → List ℤ → List ℤ → List ℤ
+spread_weights [] ys weights = weights
+spread_weights (c ∷ cs) [] weights = weights
+spread_weights (c ∷ cs) (y ∷ ys) weights = spread_weights cs ys (set weights c y)
 
 -- the weights of the problem's rows, which stand after those of the variables
 abbrev pub row_entries : ℕ → List ℤ → List (ℕ × ℤ)
@@ -47,8 +47,9 @@ row_entries vars weights = entries_from 0 (drop vars weights)
 
 -- with these weights the quantities sum to the cost row's equation
 abbrev pub optimal_weights : Tableau → List ℤ
-optimal_weights t = spread t.columns t.cost.coefs (replicate (length t.rows) (pos 0))
+optimal_weights t = spread_weights t.columns t.cost.coefs (replicate (length t.rows) (pos 0))
 
 -- with these the quantities sum to the equation of the row r
 abbrev pub empty_weights : Tableau → ℕ → List ℤ
-empty_weights t r = set (spread t.columns (scale (negsuc 0) (row_of t r).coefs) (replicate (length t.rows) (pos 0))) r (row_of t r).den
+empty_weights t r = set (spread_weights t.columns (scale (negsuc 0) (row_of t r).coefs)
+    (replicate (length t.rows) (pos 0))) r (row_of t r).den

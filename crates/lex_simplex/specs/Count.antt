@@ -2,5 +2,5 @@
 use Rattle.std.specs.Prelude.{ℕ, ◌+◌, ◌-◌, ◌^◌, min}
 
 -- the count with so many more
-abbrev pub raised : ℕ → ℕ → ℕ
-raised count more = min (count + more) (2 ^ 64 - 1)
+abbrev pub capped_sum : ℕ → ℕ → ℕ
+capped_sum count more = min (count + more) (2 ^ 64 - 1)

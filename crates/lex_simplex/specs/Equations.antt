@@ -15,8 +15,8 @@ abbrev pub quantities : ProblemData → List ℤ → ℤ → List ℤ
 quantities p x n = x ++ map (surplus x n) p.rows
 
 -- of these the ones that the columns stand for
-abbrev pub in_columns : List ℕ → List ℤ → List ℤ
-in_columns columns qs = map (λ c. get_or qs c (pos 0)) columns
+abbrev pub nonbasic : List ℕ → List ℤ → List ℤ
+nonbasic columns qs = map (λ c. get_or qs c (pos 0)) columns
 
 -- the row's equation, for n times its quantity q and n times the columns' quantities us
 abbrev pub Holds : ℤ → List ℤ → ℤ → TableRow → Type 0
@@ -34,15 +34,18 @@ pub record IsTableRow (vars : ℕ) (row : TableRow) : Type 0 where
   pub den_pos : pos 0 <ℤ row.den
   pub one_each : length row.coefs ≡ vars
 
--- a tableau of the problem: as many columns as variables, each of a quantity; rows that hold at each point; columns that are
--- independent over the variables' rows, and lexicographically positive over the cost's and the variables'
+-- a tableau of the problem: as many columns as variables, each of a quantity; rows that hold at each point; columns
+-- that are independent over the variables' rows, and lexicographically positive over the cost's and the variables'
 pub record IsTableauOf (p : ProblemData) (t : Tableau) : Type 0 where
   pub one_column_each : length t.columns ≡ p.vars
   pub one_row_each : length t.rows ≡ p.vars + length p.rows
   pub columns_below : All (λ c. c < length t.rows) t.columns
   pub cost_fits : IsTableRow p.vars t.cost
   pub rows_fit : All (IsTableRow p.vars) t.rows
-  pub cost_holds : (x : List ℤ) (n : ℤ) → length x ≡ p.vars → Holds (dot p.cost x) (in_columns t.columns (quantities p x n)) n t.cost
-  pub rows_hold : (x : List ℤ) (n : ℤ) → length x ≡ p.vars → AllHold (quantities p x n) (in_columns t.columns (quantities p x n)) n t.rows
-  pub independent : (d : List ℤ) → length d ≡ p.vars → All (λ (row : TableRow). dot row.coefs d ≡ pos 0) (take p.vars t.rows) → AreZero d
+  pub cost_holds : (x : List ℤ) (n : ℤ) → length x ≡ p.vars
+      → Holds (dot p.cost x) (nonbasic t.columns (quantities p x n)) n t.cost
+  pub rows_hold : (x : List ℤ) (n : ℤ) → length x ≡ p.vars
+      → AllHold (quantities p x n) (nonbasic t.columns (quantities p x n)) n t.rows
+  pub independent : (d : List ℤ) → length d ≡ p.vars
+      → All (λ (row : TableRow). dot row.coefs d ≡ pos 0) (take p.vars t.rows) → AreZero d
   pub columns_positive : (e : ℕ) → e < p.vars → IsLexPositive (column t e)

@@ -1,5 +1,4 @@
 pub mod Answer
-pub mod Bound
 pub mod Candidate
 pub mod Cells
 pub mod Columns
@@ -8,6 +7,7 @@ pub mod Equations
 pub mod Pivot
 pub mod Run
 pub mod State
+pub mod Steps
 pub mod Tableau
 pub mod Turn
 pub mod Turned

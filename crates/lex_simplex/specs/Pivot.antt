@@ -15,7 +15,8 @@ pub record IsLeaving (t : Tableau) (r : ℕ) : Type 0 where
 pub record IsEntering (t : Tableau) (r e : ℕ) : Type 0 where
   pub below : e < length t.columns
   pub positive : pos 0 <ℤ entry (row_of t r) e
-  pub least : (f : ℕ) → f < length t.columns → f ≢ e → pos 0 <ℤ entry (row_of t r) f → LexLess (ratios t r e) (ratios t r f)
+  pub least : (f : ℕ) → f < length t.columns → f ≢ e → pos 0 <ℤ entry (row_of t r) f
+      → LexLess (ratios t r e) (ratios t r f)
 
 -- each product and difference that the pivot forms, before rows are divided, is in the range
 pub record PivotFits (t : Tableau) (r e : ℕ) : Type 0 where

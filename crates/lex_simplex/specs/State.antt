@@ -1,8 +1,9 @@
 -- A table between turns: its tableau, and how its run ended, if it did.
-use Rattle.std.specs.Prelude.{◌≡◌, ℕ, ◌+◌, List, length, ℤ, Option, Some, None, Result, Ok, Err, ⊤}
+use Rattle.std.specs.Prelude.{◌≡◌, Option, Some, None, Result, Ok, Err, All, ⊤}
 use Rattle.frac128.specs.Problem.{ProblemData, IsProblem}
-use Rattle.lex_simplex.specs.Cells.{AreCells, tableau_in}
+use Rattle.lex_simplex.specs.Cells.{table_rows}
 use Rattle.lex_simplex.specs.Equations.{IsTableauOf}
+use Rattle.lex_simplex.specs.Steps.{IsReducedRow}
 use Rattle.lex_simplex.specs.Tableau.{Tableau}
 use Rattle.lex_simplex.specs.Turn.{turn, ended}
 use Rattle.lex_simplex.specs.declared.end.End.{End}
@@ -13,18 +14,15 @@ pub record TableData : Type 0 where
   pub tableau : Tableau
   pub end : Option (Result End PivotFault)
 
--- it is a tableau of some problem
-abbrev pub HasProblem : Tableau → Type 0
-HasProblem t = (p : ProblemData) × IsProblem p × IsTableauOf p t
+-- turns can go on from it: it is a tableau of some problem, with rows in range that have no common divisor
+pub record IsWorkable (t : Tableau) : Type 0 where
+  pub problem : ProblemData
+  pub is_problem : IsProblem problem
+  pub is_tableau : IsTableauOf problem t
+  pub rows_reduced : All IsReducedRow (table_rows t)
 
--- cells of such a tableau, with room for a row of them
-pub record IsRunning (columns : List ℕ) (rows : List (List ℤ)) (room : List ℤ) : Type 0 where
-  pub cells : AreCells columns rows
-  pub room_fits : length room ≡ length columns + 2
-  pub tableau : HasProblem (tableau_in rows columns)
-
--- where the run has ended with such a tableau the turn from it ends so
-abbrev pub IsKept : List ℕ → List (List ℤ) → List ℤ → Option (Result End PivotFault) → Type 0
-IsKept columns rows room None = IsRunning columns rows room
-IsKept columns rows room (Some (Ok end)) = IsRunning columns rows room × (turn (tableau_in rows columns) ≡ ended (Ok end))
-IsKept columns rows room (Some (Err fault)) = ⊤
+-- where the run has not left the range its tableau is workable, and where it has ended the turn from it ends so
+abbrev pub IsKept : Tableau → Option (Result End PivotFault) → Type 0
+IsKept t None = IsWorkable t
+IsKept t (Some (Ok end)) = IsWorkable t × (turn t ≡ ended (Ok end))
+IsKept t (Some (Err fault)) = ⊤

@@ -1,5 +1,6 @@
--- Tableaus: the cost and each quantity of a problem, as a constant and multiples of some of the quantities.
--- A quantity is a variable, or the surplus of a row, coefs·x - bound. It is named by its place: first the variables, then the rows.
+-- Tableaus: the cost and each quantity of a problem, as a constant and multiples of some of the quantities. A
+-- quantity is a variable, or the surplus of a row, coefs·x - bound. It is named by its place: first the variables,
+-- then the rows.
 use Rattle.std.specs.Prelude.{ℕ, List, ◌∷◌, ◌++◌, map, take, length, get_or, ℤ, pos, neg_ℤ, [], slice_index_or}
 use Rattle.frac128.specs.Problem.{ProblemData}
 use Rattle.frac128.specs.declared.problem.Row.{Row}
@@ -35,9 +36,13 @@ start p = record {
   columns = numbers_from 0 p.vars;
 }
 
+-- a row without effect
+abbrev pub no_row : TableRow
+no_row = record { den = pos 1; constant = pos 0; coefs = [] }
+
 -- the row of a quantity, which is without effect past the last one
 abbrev pub row_of : Tableau → ℕ → TableRow
-row_of t r = slice_index_or t.rows r (record { den = pos 1; constant = pos 0; coefs = [] })
+row_of t r = slice_index_or t.rows r no_row
 
 -- a row's coefficient in the column e
 abbrev pub entry : TableRow → ℕ → ℤ
@@ -46,6 +51,10 @@ entry row e = get_or row.coefs e (pos 0)
 -- the rows that order columns and points: that of the cost, then those of the variables
 abbrev pub ordering_rows : Tableau → List TableRow
 ordering_rows t = t.cost ∷ take (length t.columns) t.rows
+
+-- the one at a place
+abbrev pub ordering_row : Tableau → ℕ → TableRow
+ordering_row t i = get_or (ordering_rows t) i no_row
 
 -- the column e over these rows
 abbrev pub column : Tableau → ℕ → List ℤ

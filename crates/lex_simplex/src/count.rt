@@ -1,6 +1,6 @@
 //! The count of pivots.
 
-ghost use Rattle.lex_simplex.specs.Count.{raised};
+ghost use Rattle.lex_simplex.specs.Count.{capped_sum};
 ghost use Rattle.std.specs.Prelude.{◌≡◌, ◌^◌, ◌<◌};
 
 use std::marker::Model;
@@ -37,14 +37,14 @@ impl Count {
 
     /// As many more as another count has.
     pub fn add(&mut self, more: &Count)
-        ensures { self.new ≡ raised self.old more.now }
+        ensures { self.new ≡ capped_sum self.old more.now }
     {
         self.made = self.made.saturating_add(more.made);
     }
 
     /// One more.
     pub(crate) fn add_one(&mut self)
-        ensures { self.new ≡ raised self.old 1 }
+        ensures { self.new ≡ capped_sum self.old 1 }
     {
         self.made = self.made.saturating_add(1);
     }

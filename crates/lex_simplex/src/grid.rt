@@ -1,9 +1,11 @@
 //! Rows of numbers of one length, one after the other in one vector.
 
-ghost use Rattle.lex_simplex.specs.Cells.{exchanged, ExchangeFits, CanExchange, rows_in, with_part};
-ghost use Rattle.std.specs.Prelude.{◌≡◌, ℕ, ◌+◌, ◌*◌, ◌<◌, ◌≤◌, ◌++◌, List, [], length, get_or, set, take, drop, ℤ, pos, ◌<ℤ◌, IfOk, OnErr, OnOk};
+ghost use Rattle.lex_simplex.specs.Cells.{rows_in, with_part};
+ghost use Rattle.lex_simplex.specs.Steps.{CanExchange, DoneIff, exchanged_row, ExchangeFits};
+ghost use Rattle.std.specs.Prelude.{◌≡◌, ◌+◌, ◌*◌, ◌<◌, ◌≤◌, ◌++◌, [], length, map, get_or, set, take, drop};
 
 use crate::numbers::exchange;
+use crate::pivot_row::PivotRow;
 use frac128::{Number, TooWide};
 use std::marker::Model;
 
@@ -52,6 +54,7 @@ impl Grid {
         requires { quantity + 1 < length self.now }
         ensures { result.now ≡ get_or self.now (quantity + 1) [] }
     {
+        // For the prover alone: the place of the row fits a machine number.
         prove!(quantity < self.count());
         self.row(quantity + 1)
     }
@@ -67,16 +70,16 @@ impl Grid {
     pub(crate) fn exchange(
         &mut self,
         place: usize,
-        pivot: &[Number],
+        pivot: &PivotRow,
         column: usize,
         number: Number,
     ) -> Result<(), TooWide>
         requires place { place < length self.old }
         requires can { CanExchange number column pivot.now (get_or self.old place []) }
-        ensures ok { OnOk result (ExchangeFits number column pivot.now (get_or self.old place [])) }
-        ensures too_wide { OnErr result (¬ ExchangeFits number column pivot.now (get_or self.old place [])) }
-        ensures value { IfOk result (λ _. self.new ≡ set self.old place (exchanged number column pivot.now (get_or self.old place []))) }
-        ensures length { length self.new ≡ length self.old }
+        ensures done { let row = get_or self.old place [] in
+            DoneIff result (ExchangeFits number column pivot.now row) self.new
+            (set self.old place (exchanged_row number column pivot.now row)) }
+        ensures same_shape { map length self.new ≡ map length self.old }
     {
         exchange_part(
             self.cells.as_mut_slice(),
@@ -103,16 +106,17 @@ fn exchange_part(
     cells: &mut [Number],
     place: usize,
     width: usize,
-    pivot: &[Number],
+    pivot: &PivotRow,
     column: usize,
     number: Number,
 ) -> Result<(), TooWide>
     requires within { place * width + width ≤ length cells.old }
-    requires can { CanExchange number column pivot.now (take width (drop (place * width) cells.old)) }
-    ensures ok { OnOk result (ExchangeFits number column pivot.now (take width (drop (place * width) cells.old))) }
-    ensures too_wide { OnErr result (¬ ExchangeFits number column pivot.now (take width (drop (place * width) cells.old))) }
-    ensures value { IfOk result (λ _. cells.new ≡ with_part cells.old (place * width) (exchanged number column pivot.now (take width (drop (place * width) cells.old)))) }
-    ensures length { length cells.new ≡ length cells.old }
+    requires can { CanExchange number column pivot.now
+        (take width (drop (place * width) cells.old)) }
+    ensures done { let row = take width (drop (place * width) cells.old) in
+        DoneIff result (ExchangeFits number column pivot.now row) cells.new
+        (with_part cells.old (place * width) (exchanged_row number column pivot.now row)) }
+    ensures same_length { length cells.new ≡ length cells.old }
 {
     let start = place * width;
     exchange(&mut cells[start..start + width], pivot, column, number)

@@ -1,6 +1,7 @@
 //! The exact simplex method with the lexicographic rule, on tableaus of whole numbers.
 #![tactic(auto)]
 
+mod cells;
 mod choice;
 mod count;
 mod end;
@@ -9,12 +10,14 @@ pub mod laws;
 mod numbers;
 mod outcome;
 mod pivot;
+mod pivot_row;
 mod reading;
 mod run;
 mod solver;
 mod start;
 mod table;
 mod turn;
+mod ways;
 
 pub use count::Count;
 pub use end::{End, PivotFault};

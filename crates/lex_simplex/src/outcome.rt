@@ -4,9 +4,10 @@ use frac128::problem::Cert;
 use frac128::{Frac, List};
 
 /// The answer to a problem.
-#[derive(Debug, Drop)]
+#[derive(Debug, PartialEq, Eq, Drop)]
 pub enum Outcome {
-    /// The least point, one number for each variable, its cost, and multipliers of the rows that bound the cost by it.
+    /// The least point, one number for each variable, its cost, and multipliers of the rows that
+    /// bound the cost by it.
     Least {
         point: List<Frac>,
         value: Frac,

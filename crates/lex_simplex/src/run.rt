@@ -1,32 +1,24 @@
 //! Turns until an end.
 
-ghost use Rattle.lex_simplex.specs.Cells.{tableau_in};
 ghost use Rattle.lex_simplex.specs.Run.{IsRunMade};
-ghost use Rattle.lex_simplex.specs.State.{IsRunning, IsKept};
-ghost use Rattle.std.specs.Prelude.{◌≡◌, length, Some as HasEnded};
+ghost use Rattle.lex_simplex.specs.State.{IsWorkable, IsKept};
+ghost use Rattle.std.specs.Prelude.{Some as HasEnded};
 
+use crate::cells::Cells;
 use crate::count::Count;
 use crate::end::{End, PivotFault};
-use crate::grid::Grid;
 use crate::turn::{Turned, turn};
-use frac128::Number;
 
 /// Makes turns until one ends, and counts the pivots.
-pub(crate) fn run(
-    grid: &mut Grid,
-    columns: &mut [usize],
-    room: &mut [Number],
-    pivots: &mut Count,
-) -> Result<End, PivotFault>
-    requires { IsRunning columns.old grid.old room.old }
-    ensures run { IsRunMade (tableau_in grid.old columns.old) pivots.old result (tableau_in grid.new columns.new) pivots.new }
-    ensures kept { IsKept columns.new grid.new room.new (HasEnded result) }
-    ensures columns { length columns.new ≡ length columns.old }
-    ensures room { length room.new ≡ length room.old }
+pub(crate) fn run(cells: &mut Cells, pivots: &mut Count) -> Result<End, PivotFault>
+    requires { IsWorkable cells.old }
+    ensures run { IsRunMade cells.old pivots.old result cells.new pivots.new }
+    ensures kept { IsKept cells.new (HasEnded result) }
 {
+    // For the prover alone: a count fits 64 bits.
     prove!(pivots.made() <= u64::MAX);
     loop {
-        if let Turned::Ended(end) = turn(grid, columns, room) {
+        if let Turned::Ended(end) = turn(cells) {
             return end;
         }
         pivots.add_one();

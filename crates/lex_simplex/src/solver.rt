@@ -5,7 +5,7 @@ ghost use Rattle.integers.specs.Counting.{choose};
 ghost use Rattle.lex_simplex.specs.Columns.{column_set};
 ghost use Rattle.lex_simplex.specs.Run.{IsSolved};
 ghost use Rattle.lex_simplex.specs.Tableau.{Tableau, start};
-ghost use Rattle.lex_simplex.specs.Turn.{IsRun, Turns};
+ghost use Rattle.lex_simplex.specs.Turn.{IsRun, Reaches};
 ghost use Rattle.std.specs.Prelude.{◌≡◌, ◌≢◌, ℕ, suc, ◌+◌, ◌<◌, length, Result as Ended};
 
 use crate::count::Count;
@@ -35,8 +35,9 @@ impl From<NoMemory> for SolveFault {
     }
 }
 
-/// The least point of a problem, its cost and a certificate of it, or a certificate that no point meets all rows. The count
-/// rises by the pivots of the problem's run, and after want of memory it is as before.
+/// The least point of a problem, its cost and a certificate of it, or a certificate that no point
+/// meets all rows. The count rises by the pivots of the problem's run, and after want of memory it
+/// is as before.
 pub fn solve(alloc: Global, problem: &Problem, pivots: &mut Count) -> Result<Outcome, SolveFault>
     ensures { IsSolved problem.now pivots.old result pivots.new }
 {

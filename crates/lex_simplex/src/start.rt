@@ -4,7 +4,7 @@ ghost use Rattle.frac128.specs.Problem.{IsRow};
 ghost use Rattle.frac128.specs.Range.{IsInRange};
 ghost use Rattle.integers.specs.Counting.{numbers_from};
 ghost use Rattle.integers.specs.Vector.{unit_vector};
-ghost use Rattle.lex_simplex.specs.Cells.{cells_of, joined};
+ghost use Rattle.lex_simplex.specs.Cells.{cells_of, joined_rows};
 ghost use Rattle.lex_simplex.specs.Tableau.{start, variable_row, surplus_row};
 ghost use Rattle.std.specs.Prelude.{◌≡◌, ℕ, ◌++◌, ◌∷◌, ◌<◌, List, [], map, replicate, pos, All, IfOk};
 
@@ -15,7 +15,8 @@ use std::alloc::Global;
 
 /// The cells of a problem's first table.
 pub(crate) fn first_grid(alloc: Global, problem: &Problem) -> Result<Grid, NoMemory>
-    ensures { IfOk result (λ grid. grid ≡ map cells_of ((start problem.now).cost ∷ (start problem.now).rows)) }
+    ensures { IfOk result (λ grid. grid
+        ≡ map cells_of ((start problem.now).cost ∷ (start problem.now).rows)) }
 {
     let vars = problem.vars();
     let mut cells = Vec::new(alloc);
@@ -30,7 +31,8 @@ pub(crate) fn first_grid(alloc: Global, problem: &Problem) -> Result<Grid, NoMem
 // Adds the cells of a row with the denominator 1.
 fn push_row(cells: &mut Vec<Number>, constant: Number, coefs: &[i128]) -> Result<(), NoMemory>
     requires { All IsInRange coefs.now }
-    ensures { IfOk result (λ _. cells.new.items ≡ cells.old.items ++ (pos 1 ∷ constant ∷ coefs.now)) }
+    ensures { IfOk result (λ _. cells.new.items
+        ≡ cells.old.items ++ (pos 1 ∷ constant ∷ coefs.now)) }
 {
     cells.push(Number::ONE)?;
     cells.push(constant)?;
@@ -42,7 +44,9 @@ fn push_row(cells: &mut Vec<Number>, constant: Number, coefs: &[i128]) -> Result
 
 // Adds the cells of each variable's row.
 fn push_variables(cells: &mut Vec<Number>, vars: usize) -> Result<(), NoMemory>
-    ensures { IfOk result (λ _. cells.new.items ≡ cells.old.items ++ joined (map (λ (j : ℕ). cells_of (variable_row vars j)) (numbers_from 0 vars))) }
+    ensures { IfOk result (λ _. cells.new.items
+        ≡ cells.old.items ++ joined_rows (map (λ (j : ℕ). cells_of (variable_row vars j))
+        (numbers_from 0 vars))) }
 {
     for variable in 0..vars {
         push_variable(cells, vars, variable)?;
@@ -53,7 +57,8 @@ fn push_variables(cells: &mut Vec<Number>, vars: usize) -> Result<(), NoMemory>
 // Adds the cells of a variable's row.
 fn push_variable(cells: &mut Vec<Number>, vars: usize, variable: usize) -> Result<(), NoMemory>
     requires { variable < vars }
-    ensures { IfOk result (λ _. cells.new.items ≡ cells.old.items ++ cells_of (variable_row vars variable)) }
+    ensures { IfOk result (λ _. cells.new.items
+        ≡ cells.old.items ++ cells_of (variable_row vars variable)) }
 {
     cells.push(Number::ONE)?;
     cells.push(Number::ZERO)?;
@@ -75,7 +80,8 @@ pub(crate) fn push_zeros(cells: &mut Vec<Number>, count: usize) -> Result<(), No
 // Adds the cells of each row's surplus.
 fn push_surpluses(cells: &mut Vec<Number>, rows: &[Row], vars: usize) -> Result<(), NoMemory>
     requires { All (IsRow vars) rows.now }
-    ensures { IfOk result (λ _. cells.new.items ≡ cells.old.items ++ joined (map (λ (row : Row). cells_of (surplus_row row)) rows.now)) }
+    ensures { IfOk result (λ _. cells.new.items
+        ≡ cells.old.items ++ joined_rows (map (λ (row : Row). cells_of (surplus_row row)) rows.now)) }
 {
     for row in rows {
         push_row(

@@ -71,9 +71,11 @@ const WIDE: [i128; 8] = [1, 1, (1 << 90) + 1, 3, 1, 7, 1 << 90, 1];
 /// The rows of a matrix of three elements, judged 3, 4 and 2.
 const MATRIX: [i128; 20] = [1, 1, 0, 1, 3, 1, 1, 4, 1, 0, 2, -1, 1, 1, 1, 0, 1, 0, 1, 2];
 
-/// The dual of Beale's example of a simplex method that goes in a circle.
-const BEALE: [i128; 19] = [
-    0, 0, 1, 1, 2, 0, 3, -8, -12, 0, -20, -2, -1, 2, 1, 9, 3, 0, -6,
+/// Goes in a circle where ties between columns are left to the first one: the eighth pivot is then
+/// the second again.
+const CIRCLE: [i128; 34] = [
+    0, 0, 0, 0, 2, 2, 2, 2, 1, 4, -1, 1, 0, -1, 3, 2, -3, 3, 1, 0, 4, -4, -1, 1, 4, 4, -1, 3, -1,
+    -4, -2, -1, 2, 1,
 ];
 
 #[test]
@@ -85,7 +87,7 @@ fn answers(rt: HostRuntime) -> Result<(), Fail> {
         (1, [1].as_slice(), "0 costs 0 over 1", 0),
         (2, WIDE.as_slice(), "too wide", 0),
         (2, MATRIX.as_slice(), "2 3 costs 5 over 1 0:1 2:1", 4),
-        (3, BEALE.as_slice(), "0 3/2 5/4 costs 5/4 over 4 0:1 2:2", 2),
+        (4, CIRCLE.as_slice(), "0 1/2 0 1 costs 0 over 1", 3),
         (0, [1].as_slice(), "nothing over 1 0:1", 0),
     ] {
         let (text, made) = solved(alloc, vars, numbers)?;

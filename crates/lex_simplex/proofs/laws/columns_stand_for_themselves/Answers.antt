@@ -1,5 +1,5 @@
-use Rattle.lex_simplex.proofs.BasicPoint.{columns_distinct, column_constant}
-use Rattle.lex_simplex.proofs.UnitRows.{column_coefs}
+use Rattle.lex_simplex.proofs.Tableaus.BasicPoint.{columns_distinct, column_constant}
+use Rattle.lex_simplex.proofs.Tableaus.UnitRows.{column_coefs}
 use Rattle.lex_simplex.proofs.laws.columns_stand_for_themselves.Goals as goal
 
 pub returns-clause-different : goal.returns-clause-different

@@ -2,9 +2,9 @@ use Rattle.std.proofs.Common.{◌<◌, All, ap₂, subst, ◌∙◌}
 use Rattle.integers.specs.Counting.{choose}
 use Rattle.lex_simplex.specs.Columns.{column_set}
 use Rattle.lex_simplex.specs.Tableau.{start}
-use Rattle.lex_simplex.proofs.ColumnLemmas.{column_set_is_choice}
-use Rattle.lex_simplex.proofs.RunLemmas.{start_turns_are, columns_change, turns_rise, turns_are_few}
-use Rattle.lex_simplex.proofs.StartLemmas.{start_is}
+use Rattle.lex_simplex.proofs.Tableaus.ColumnSets.{column_set_is_choice}
+use Rattle.lex_simplex.proofs.Runs.Ending.{start_turns_are, columns_change, turns_rise, turns_are_few}
+use Rattle.lex_simplex.proofs.Tableaus.Start.{start_is}
 use Rattle.lex_simplex.proofs.laws.no_columns_come_back.Goals as goal
 
 pub returns-clause-choice : goal.returns-clause-choice
@@ -18,7 +18,8 @@ returns-clause-choice c n t turns =
     }
 
 pub returns-clause-different : goal.returns-clause-different
-returns-clause-different c n k t s turns more = columns_change c.args.problem.now k t s (start_turns_are c.args.problem.now n t c.vars.ensures.problem turns) more
+returns-clause-different c n k t s turns more = columns_change c.args.problem.now k t s
+    (start_turns_are c.args.problem.now n t c.vars.ensures.problem turns) more
 
 pub returns-clause-rise : goal.returns-clause-rise
 returns-clause-rise c n k t s turns more = turns_rise c.args.problem.now k t s (start_turns_are c.args.problem.now n t c.vars.ensures.problem turns) more

@@ -1,5 +1,5 @@
-use Rattle.lex_simplex.proofs.ChoiceLemmas.{leaving-some, leaving-none, entering-is, is-entering, entering-none}
-use Rattle.lex_simplex.proofs.EnteringLemmas.{no_entering}
+use Rattle.lex_simplex.proofs.Choices.Laws.{leaving-some, leaving-none, entering-is, is-entering, entering-none}
+use Rattle.lex_simplex.proofs.Choices.NoColumn.{no_entering}
 use Rattle.lex_simplex.proofs.laws.pivot_is_one.Goals as goal
 
 pub returns-clause-row : goal.returns-clause-row

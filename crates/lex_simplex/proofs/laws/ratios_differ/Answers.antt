@@ -1,4 +1,4 @@
-use Rattle.lex_simplex.proofs.RatioLemmas.{ratios_differ}
+use Rattle.lex_simplex.proofs.Choices.Ratios.{ratios_differ}
 use Rattle.lex_simplex.proofs.laws.ratios_differ.Goals as goal
 
 pub returns : goal.returns

@@ -1,4 +1,4 @@
-use Rattle.lex_simplex.proofs.RunLemmas.{problem_run_exists, problem_run_is_one}
+use Rattle.lex_simplex.proofs.Runs.Ending.{problem_run_exists, problem_run_is_one}
 use Rattle.lex_simplex.proofs.laws.run_is_one.Goals as goal
 
 pub returns-clause-ends : goal.returns-clause-ends

@@ -1,5 +1,5 @@
-use Rattle.lex_simplex.proofs.RunLemmas.{turns_are}
-use Rattle.lex_simplex.proofs.StartLemmas.{start_is}
+use Rattle.lex_simplex.proofs.Runs.Ending.{turns_are}
+use Rattle.lex_simplex.proofs.Tableaus.Start.{start_is}
 use Rattle.lex_simplex.proofs.laws.turns_keep_the_problem.Goals as goal
 
 pub returns-clause-start : goal.returns-clause-start

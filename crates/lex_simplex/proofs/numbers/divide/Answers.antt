@@ -10,4 +10,5 @@ returns-then-eq c =
     sym (ap (quotients c.args.numbers.now) one ∙ quotients-one c.args.numbers.now)
 
 pub loop-i-preserved : goal.loop-i-preserved
-loop-i-preserved c = map_front-next (λ x. int_div x c.args.divisor) c.args.numbers.now c.loop-i.numbers c.loop-i.i c.index-numbers-i.result c.quotient.result c.loop-i-test.true c.loop-i.invariant c.index-numbers-i.is c.quotient.ensures
+loop-i-preserved c = map_front-next (λ x. int_div x c.args.divisor) c.args.numbers.now c.loop-i.numbers c.loop-i.i c.index-numbers-i.result
+    c.quotient.result c.loop-i-test.true c.loop-i.invariant c.index-numbers-i.is c.quotient.ensures

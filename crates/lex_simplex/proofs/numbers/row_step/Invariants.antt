@@ -1,6 +1,6 @@
 use Rattle.std.proofs.Common.{◌≡◌, ◌↔◌, ◌++◌, take, drop}
 use Rattle.integers.specs.Vector.{row_step as row_stepped}
-use Rattle.lex_simplex.specs.Cells.{StepFits}
+use Rattle.lex_simplex.specs.Steps.{StepFits}
 use Rattle.lex_simplex.proofs.numbers.row_step.Given as goal
 
 abbrev pub invariant-loop-i : goal.invariant-loop-i

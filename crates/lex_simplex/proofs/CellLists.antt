@@ -1,0 +1,12 @@
+pub mod EntryLoops
+pub mod Exchange
+pub mod Exchanges
+pub mod First
+pub mod FitLoops
+pub mod Grids
+pub mod Less
+pub mod Once
+pub mod Pivots
+pub mod Prepared
+pub mod Rows
+pub mod Steps

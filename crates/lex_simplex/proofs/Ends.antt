@@ -1,0 +1,5 @@
+pub mod Empty
+pub mod Optimal
+pub mod OptimalCertificate
+pub mod Outcomes
+pub mod Weights
