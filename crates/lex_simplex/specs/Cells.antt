@@ -35,8 +35,7 @@ abbrev pub tableau_in : List (List ℤ) → List ℕ → Tableau
 tableau_in rows columns = record {
   cost = row_in (get_or rows 0 []);
   rows = map row_in (drop 1 rows);
-  columns =
-      columns;
+  columns = columns;
 }
 
 -- the cells of a tableau's rows, the cost's first

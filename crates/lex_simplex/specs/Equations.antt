@@ -14,7 +14,7 @@ surplus x n row = dot row.coefs x -ℤ row.bound *ℤ n
 abbrev pub quantities : ProblemData → List ℤ → ℤ → List ℤ
 quantities p x n = x ++ map (surplus x n) p.rows
 
--- of these the ones that the columns stand for
+-- of these the nonbasic ones, for which the columns stand
 abbrev pub nonbasic : List ℕ → List ℤ → List ℤ
 nonbasic columns qs = map (λ c. get_or qs c (pos 0)) columns
 

@@ -1,5 +1,4 @@
 pub mod Answer
-pub mod Candidate
 pub mod Cells
 pub mod Columns
 pub mod Count
@@ -10,4 +9,3 @@ pub mod State
 pub mod Steps
 pub mod Tableau
 pub mod Turn
-pub mod Turned

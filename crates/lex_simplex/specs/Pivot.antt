@@ -11,6 +11,11 @@ pub record IsLeaving (t : Tableau) (r : ℕ) : Type 0 where
   pub negative : (row_of t r).constant <ℤ pos 0
   pub first : (i : ℕ) → i < r → pos 0 ≤ℤ (row_of t i).constant
 
+-- e is a column with a positive number in the row r
+pub record IsCandidate (t : Tableau) (r e : ℕ) : Type 0 where
+  pub below : e < length t.columns
+  pub positive : pos 0 <ℤ entry (row_of t r) e
+
 -- e is the column with a positive number in the row r whose ratios come before those of each other such column
 pub record IsEntering (t : Tableau) (r e : ℕ) : Type 0 where
   pub below : e < length t.columns

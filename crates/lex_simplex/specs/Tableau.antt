@@ -1,6 +1,7 @@
 -- Tableaus: the cost and each quantity of a problem, as a constant and multiples of some of the quantities. A
 -- quantity is a variable, or the surplus of a row, coefs·x - bound. It is named by its place: first the variables,
--- then the rows.
+-- then the rows. In the field's words the quantities that columns stand for are nonbasic, the coefficients of the
+-- cost's row are the reduced costs, and a row with a negative constant is an infeasible one.
 use Rattle.std.specs.Prelude.{ℕ, List, ◌∷◌, ◌++◌, map, take, length, get_or, ℤ, pos, neg_ℤ, [], slice_index_or}
 use Rattle.frac128.specs.Problem.{ProblemData}
 use Rattle.frac128.specs.declared.problem.Row.{Row}

@@ -59,9 +59,10 @@ stepped_row_by p q pivot e row = record {
 -- the products and differences that this forms; those of the column e are its one product alone
 abbrev pub numbers_by : ℤ → ℤ → TableRow → ℕ → TableRow → List ℤ
 numbers_by p q pivot e row =
-    (p *ℤ row.den) ∷ (p *ℤ row.constant) ∷ (q *ℤ pivot.constant) ∷ (p *ℤ row.constant -ℤ q *ℤ pivot.constant) ∷ (q *ℤ pivot.den)
-    ∷ (scale p (set row.coefs e (pos 0)) ++ scale q (set pivot.coefs e (pos 0)) ++ row_step p q
-    (set row.coefs e (pos 0)) (set pivot.coefs e (pos 0)))
+    let xs = set row.coefs e (pos 0) in
+    let ys = set pivot.coefs e (pos 0) in
+    (p *ℤ row.den) ∷ (p *ℤ row.constant) ∷ (q *ℤ pivot.constant) ∷ (p *ℤ row.constant -ℤ q *ℤ pivot.constant)
+    ∷ (q *ℤ pivot.den) ∷ (scale p xs ++ scale q ys ++ row_step p q xs ys)
 
 -- the multiple of a row and the multiple of the pivot row that a pivot takes
 abbrev pub row_factor : TableRow → ℕ → TableRow → ℤ

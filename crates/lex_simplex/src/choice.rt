@@ -1,6 +1,6 @@
 //! Where a turn pivots.
 
-ghost use Rattle.lex_simplex.specs.Candidate.{IsCandidate};
+ghost use Rattle.lex_simplex.specs.Pivot.{IsCandidate};
 ghost use Rattle.lex_simplex.specs.Cells.{row_in};
 ghost use Rattle.lex_simplex.specs.State.{IsWorkable};
 ghost use Rattle.lex_simplex.specs.Tableau.{entry as entry_of};

@@ -3,7 +3,7 @@
 use frac128::problem::Cert;
 use frac128::{Frac, List};
 
-/// The answer to a problem.
+/// The answer to a problem. Two answers are equal where all that they hold is.
 #[derive(Debug, PartialEq, Eq, Drop)]
 pub enum Outcome {
     /// The least point, one number for each variable, its cost, and multipliers of the rows that

@@ -81,7 +81,8 @@ pub(crate) fn push_zeros(cells: &mut Vec<Number>, count: usize) -> Result<(), No
 fn push_surpluses(cells: &mut Vec<Number>, rows: &[Row], vars: usize) -> Result<(), NoMemory>
     requires { All (IsRow vars) rows.now }
     ensures { IfOk result (λ _. cells.new.items
-        ≡ cells.old.items ++ joined_rows (map (λ (row : Row). cells_of (surplus_row row)) rows.now)) }
+        ≡ cells.old.items
+        ++ joined_rows (map (λ (row : Row). cells_of (surplus_row row)) rows.now)) }
 {
     for row in rows {
         push_row(

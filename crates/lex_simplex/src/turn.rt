@@ -1,7 +1,7 @@
 //! One turn of a table.
 
 ghost use Rattle.lex_simplex.specs.State.{IsWorkable};
-ghost use Rattle.lex_simplex.specs.Turned.{IsTurned};
+ghost use Rattle.lex_simplex.specs.State.{IsTurned};
 
 use crate::cells::Cells;
 use crate::choice::{entering, leaving};

@@ -36,15 +36,6 @@ entries_put ws i w on now all l read n put so_far =
     ∙ ap (λ e. on ++ e) (sym (ap (entries_from i) (from_place ws i w l read) ∙ entries-other i w (drop (i + 1) ws) n))
     ∙ so_far
 
--- at the end nothing is left
-pub entries_done : (ws : List ℤ) (i : ℕ) (on all : List (ℕ × ℤ)) → length ws ≤ i → on ++ entries_from i (drop i ws) ≡ all → on ≡ all
-entries_done ws i on all end so_far = sym (append-nil on) ∙ ap (λ rest. on ++ entries_from i rest) (sym (drop_all i ws end)) ∙ so_far
-
--- entries at the front of a list, with one more behind them
-pub entries_front : (entries : List (ℕ × ℤ)) (count : ℕ) (e : ℕ × ℤ) → count < length entries
-    → take (count + 1) (set entries count e) ≡ take count entries ++ e ∷ []
-entries_front entries count e below = take_more_set entries count e below
-
 -- zeros have none
 entries_from-zeros : (i n : ℕ) → entries_from i (replicate n (pos 0)) ≡ []
 entries_from-zeros i zero = refl

@@ -14,10 +14,6 @@ pub record IsLessSoFar (q : ℤ) (entries : List (ℕ × ℤ)) (k : ℕ) (row no
   pub fits : LessFits q entries row ↔ LessFits q (drop k entries) now
   pub long : length now ≡ length row
 
--- at the start
-pub IsLessSoFar-none : (q : ℤ) (entries : List (ℕ × ℤ)) (row : List ℤ) → IsLessSoFar q entries 0 row row
-IsLessSoFar-none q entries row = record { value = refl; fits = (λ h. h, λ h. h); long = refl }
-
 -- the entries that are left begin with the one read
 left : (entries : List (ℕ × ℤ)) (k : ℕ) (e : ℕ × ℤ) → k < length entries → e ≡ get_or entries k e → drop k entries ≡ e ∷ drop (k + 1) entries
 left entries k e below read = drop-cons entries k e below ∙ ap₂ (λ x n. x ∷ drop n entries) (sym read) (sym (add-one k))
@@ -44,14 +40,6 @@ IsLessSoFar-next q entries k row now e x z so_far below read within at product d
 
     changed : set now e.0 z ≡ set now e.0 (get_or now e.0 (pos 0) -ℤ q *ℤ e.1)
     changed = ap (set now e.0) (is ∙ ap (λ w. w -ℤ q *ℤ e.1) here)
-
--- where they are not nothing fits
-pub IsLessSoFar-stop : (q : ℤ) (entries : List (ℕ × ℤ)) (k : ℕ) (row now : List ℤ) (e : ℕ × ℤ) (x : ℤ)
-    → IsLessSoFar q entries k row now → k < length entries → e ≡ get_or entries k e → e.0 < length now → x ≡ get_or now e.0 x
-    → ¬ (IsInRange (q *ℤ e.1) × IsInRange (x -ℤ q *ℤ e.1)) → ¬ LessFits q entries row
-IsLessSoFar-stop q entries k row now e x so_far below read within at no_fit h =
-    let parts = subst (λ on. LessFits q on now) (left entries k e below read) (so_far.fits.0 h) in
-    no_fit (parts.0, subst (λ w. IsInRange (w -ℤ q *ℤ e.1)) (sym (at ∙ get_or_default now e.0 x (pos 0) within)) parts.1)
 
 -- the step of a loop that takes each entry off once
 pub IsLessSoFar-subtract : (entries : List (ℕ × ℤ)) (k : ℕ) (row now : List ℤ) (e : ℕ × ℤ) (x z : ℤ)

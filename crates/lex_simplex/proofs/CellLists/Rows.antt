@@ -27,21 +27,6 @@ pub wide_at : (columns : List ℕ) (rows : List (List ℤ)) (i : ℕ) (cells : L
     → length cells ≡ length columns + 2
 wide_at columns rows i cells are h is = ap length is ∙ are.wide i [] h
 
--- the rows that order columns and points
-pub ordering-cells : (columns : List ℕ) (rows : List (List ℤ)) → AreCells columns rows
-    → ordering_rows (tableau_in rows columns) ≡ map row_in (take (length columns + 1) rows)
-ordering-cells columns [] cells = absurd (omega (arith, cells.some))
-ordering-cells columns (cost ∷ rows) cells = ap (λ rest. row_in cost ∷ rest) (take-map row_in (length columns) rows)
-    ∙ ap (λ n. map row_in (take n (cost ∷ rows))) (sym (add-one (length columns)))
-
--- one of them
-pub ordering_row-cells : (columns : List ℕ) (rows : List (List ℤ)) (i : ℕ) → AreCells columns rows → length columns < length rows → i ≤ length columns
-    → ordering_row (tableau_in rows columns) i ≡ row_in (get_or rows i [])
-ordering_row-cells columns rows i cells more h =
-    ap (λ (xs : List TableRow). get_or xs i no_row) (ordering-cells columns rows cells)
-    ∙ get_or-map row_in (take (length columns + 1) rows) i [] no_row (omega (arith, length-take (length columns + 1) rows))
-    ∙ ap row_in (get_or-take (length columns + 1) rows i [] (omega arith))
-
 -- ---- from rows to cells
 
 -- the cells of the row of some cells are these

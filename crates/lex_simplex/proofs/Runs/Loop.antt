@@ -7,7 +7,7 @@ use Rattle.lex_simplex.specs.Run.{IsRunMade}
 use Rattle.lex_simplex.specs.State.{IsKept, IsWorkable}
 use Rattle.lex_simplex.specs.Tableau.{Tableau}
 use Rattle.lex_simplex.specs.Turn.{Reaches, turn, next, ended}
-use Rattle.lex_simplex.specs.Turned.{IsTurned}
+use Rattle.lex_simplex.specs.State.{IsTurned}
 use Rattle.lex_simplex.specs.declared.end.End.{End}
 use Rattle.lex_simplex.specs.declared.end.PivotFault.{PivotFault}
 use Rattle.lex_simplex.specs.declared.turn.Turned.TheVariants.{Ended}
