@@ -35,7 +35,8 @@ module _ {A X : Type 0} (f : X → A) where
   front-behind (x ∷ xs) (y ∷ old) (suc i) (suc j) d h k = front-behind xs old i j d (omega arith) (omega arith)
 
   -- one element more
-  pub front-set : (xs rest : List X) (old : List A) (i : ℕ) (x : X) → drop i xs ≡ x ∷ rest → i < length old → set (map f (take i xs) ++ drop i old) i (f x) ≡ map f (take (suc i) xs) ++ drop (suc i) old
+  pub front-set : (xs rest : List X) (old : List A) (i : ℕ) (x : X) → drop i xs ≡ x ∷ rest → i < length old
+      → set (map f (take i xs) ++ drop i old) i (f x) ≡ map f (take (suc i) xs) ++ drop (suc i) old
   front-set xs rest [] i x h k = absurd (omega arith)
   front-set [] rest (y ∷ old) i x h k = absurd (nil_not_cons _ _ (sym (drop-nil i) ∙ h))
   front-set (z ∷ xs) rest (y ∷ old) zero x h k = cc
@@ -95,15 +96,6 @@ IsMatrix-without m p h above = record {
   most = omega (arith, h.most);
   each = length-map (pairs (m.size - 1)) (left_cell m p);
   cells_are = All-map IsCell (left_cell m p) (pairs (m.size - 1)) (λ k d _. IsCell-cell_at m _ _ h.cells_are);
-}
-
--- a matrix in which a pair was cleared
-pub IsMatrix-cleared : (m : Judgements) (p q : ℕ) → IsMatrix m → IsMatrix (cleared m p q)
-IsMatrix-cleared m p q h = record {
-  least = h.least;
-  most = h.most;
-  each = length-set m.cells (place m.size p q) (full, false) ∙ h.each;
-  cells_are = All-set IsCell m.cells (place m.size p q) (full, false) IsCell-full h.cells_are;
 }
 
 -- ---- pair by pair
@@ -174,7 +166,8 @@ module _ (size p i x y : ℕ) (old now : List (Bounds × Bool)) (rest : List (�
         omega (arith, front, length-map (take i (pairs (size - 1))) (left_cell whole p), length-take i (pairs (size - 1)), length-drop i old, moved_within, (drop-next (pairs (size - 1)) rest i (x, y) next).0)
 
     -- the next cell is that of the pair that is left
-    pub moved_next : (v : Bounds × Bool) → v ≡ get_or now (place size (without_from p x) (without_from p y)) v → set now i v ≡ map (left_cell whole p) (take (i + 1) (pairs (size - 1))) ++ drop (i + 1) old
+    pub moved_next : (v : Bounds × Bool) → v ≡ get_or now (place size (without_from p x) (without_from p y)) v
+        → set now i v ≡ map (left_cell whole p) (take (i + 1) (pairs (size - 1))) ++ drop (i + 1) old
     moved_next v read =
         let j = place size (without_from p x) (without_from p y) in
         let k = drop-next (pairs (size - 1)) rest i (x, y) next in
@@ -185,7 +178,8 @@ module _ (size p i x y : ℕ) (old now : List (Bounds × Bool)) (rest : List (�
         ∙ ap (λ n. map (left_cell whole p) (take n (pairs (size - 1))) ++ drop n old) (sym (add-one i))
 
 -- and then the rest goes
-pub moved_all : (f : ℕ × ℕ → Bounds × Bool) (ps : List (ℕ × ℕ)) (old now : List (Bounds × Bool)) (i : ℕ) → now ≡ map f (take i ps) ++ drop i old → drop i ps ≡ [] → i ≤ length ps → take i now ≡ map f ps
+pub moved_all : (f : ℕ × ℕ → Bounds × Bool) (ps : List (ℕ × ℕ)) (old now : List (Bounds × Bool)) (i : ℕ) → now ≡ map f (take i ps) ++ drop i old
+    → drop i ps ≡ [] → i ≤ length ps → take i now ≡ map f ps
 moved_all f ps old now i is none within =
     let all : i ≡ length ps = omega (arith, drop-all ps i none) in
     ap (take i) is ∙ ap (λ k. take k (map f (take k ps) ++ drop k old)) all ∙ front-all f ps old

@@ -47,12 +47,14 @@ every_from_filter {X} P t (x ∷ xs) h =
     by_test h
 
 -- pieces, one after the other
-pub every-flat_map : {X Y : Type 0} (P : Y → Type 0) (f : X → List Y) (xs : List X) → AllByRecursion (λ x. AllByRecursion P (f x)) xs → AllByRecursion P (flat_map f xs)
+pub every-flat_map : {X Y : Type 0} (P : Y → Type 0) (f : X → List Y) (xs : List X) → AllByRecursion (λ x. AllByRecursion P (f x)) xs
+    → AllByRecursion P (flat_map f xs)
 every-flat_map P f [] h = tt
 every-flat_map P f (x ∷ xs) h = every-append P (f x) (flat_map f xs) h.0 (every-flat_map P f xs h.1)
 
 -- and back
-pub every_from_flat_map : {X Y : Type 0} (P : Y → Type 0) (f : X → List Y) (xs : List X) → AllByRecursion P (flat_map f xs) → AllByRecursion (λ x. AllByRecursion P (f x)) xs
+pub every_from_flat_map : {X Y : Type 0} (P : Y → Type 0) (f : X → List Y) (xs : List X) → AllByRecursion P (flat_map f xs)
+    → AllByRecursion (λ x. AllByRecursion P (f x)) xs
 every_from_flat_map P f [] h = tt
 every_from_flat_map P f (x ∷ xs) h =
     (every-append_left P (f x) (flat_map f xs) h, every_from_flat_map P f xs (every-append_right P (f x) (flat_map f xs) h))

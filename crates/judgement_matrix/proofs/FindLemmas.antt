@@ -2,22 +2,6 @@
 use Rattle.std.proofs.Common.{◌≡◌, ℕ, suc, ◌+◌, ◌-◌, ◌<◌, Bool, true, false, cond, List, [], ◌∷◌, ◌++◌, map, Some, None, find, refl, ap, arith}
 use Rattle.std.specs.List.{AllByRecursion, range_with_len}
 
--- it is in the first of two lists, or else in the second
-pub find-append_some : {X : Type 0} (f : X → Bool) (xs ys : List X) (x : X) → find f xs ≡ Some x → find f (xs ++ ys) ≡ Some x
-find-append_some f [] ys x h = cc
-find-append_some {X} f (y ∷ xs) ys x h =
-    let G : Bool → Type 0 = λ b. cond b (Some y) (find f xs) ≡ Some x → cond b (Some y) (find f (xs ++ ys)) ≡ Some x in
-    let by_test : G (f y) = elim (f y) as G [ true ↦ λ k. k | false ↦ λ k. find-append_some f xs ys x k ] in
-    by_test h
-
--- it is in the second, if none is in the first
-pub find-append_none : {X : Type 0} (f : X → Bool) (xs ys : List X) → find f xs ≡ None → find f (xs ++ ys) ≡ find f ys
-find-append_none f [] ys h = refl
-find-append_none {X} f (y ∷ xs) ys h =
-    let G : Bool → Type 0 = λ b. cond b (Some y) (find f xs) ≡ None → cond b (Some y) (find f (xs ++ ys)) ≡ find f ys in
-    let by_test : G (f y) = elim (f y) as G [ true ↦ λ k. cc | false ↦ λ k. find-append_none f xs ys k ] in
-    by_test h
-
 -- none passes
 pub find_none : {X : Type 0} (f : X → Bool) (xs : List X) → find f xs ≡ None → AllByRecursion (λ x. f x ≡ false) xs
 find_none f [] h = tt
@@ -51,18 +35,7 @@ find_first {X} f (y ∷ xs) x h =
     by_test refl h
 
 -- the first is what is found
-pub find_from_first : {X : Type 0} (f : X → Bool) (before : List X) (x : X) (after : List X) → AllByRecursion (λ y. f y ≡ false) before → f x ≡ true → find f (before ++ x ∷ after) ≡ Some x
+pub find_from_first : {X : Type 0} (f : X → Bool) (before : List X) (x : X) (after : List X) → AllByRecursion (λ y. f y ≡ false) before → f x ≡ true
+    → find f (before ++ x ∷ after) ≡ Some x
 find_from_first f [] x after h k = rw k refl
 find_from_first f (y ∷ before) x after h k = rw h.0 (find_from_first f before x after h.1 k)
-
--- a search among what g makes of the numbers from p on, below n
-pub find-from_passes : {X : Type 0} (f : X → Bool) (g : ℕ → X) (p n : ℕ) → p < n → f (g p) ≡ true → find f (map g (range_with_len p (n - p))) ≡ Some (g p)
-find-from_passes f g p n below passes =
-    let e : n - p ≡ suc (n - (p + 1)) = omega arith in
-    rw (e, passes)
-
--- p fails
-pub find-from_fails : {X : Type 0} (f : X → Bool) (g : ℕ → X) (p n : ℕ) → p < n → f (g p) ≡ false → find f (map g (range_with_len p (n - p))) ≡ find f (map g (range_with_len (p + 1) (n - (p + 1))))
-find-from_fails f g p n below fails =
-    let e : n - p ≡ suc (n - (p + 1)) = omega arith in
-    rw (e, fails)

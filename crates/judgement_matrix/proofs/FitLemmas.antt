@@ -66,10 +66,6 @@ row_misses_is m w n tag h =
     let by_test : G (row_misses m w n tag) = elim (row_misses m w n tag) as G [ true ↦ λ e. e | false ↦ λ e. absurd (h (row_misses-false m w n tag e)) ] in
     by_test refl
 
--- the test of a least category
-least_one : (n : ℕ) → 1 ≤ n → nat_le 1 n ≡ true
-least_one n h = grind (arith, nat_tests)
-
 -- no category at all
 least_none : (n : ℕ) → nat_le 1 n ≡ false → n ≡ 0
 least_none n h = grind (arith, nat_tests)
@@ -91,7 +87,8 @@ less_is : (m n : ℕ) → nat_lt m n ≡ true → m < n
 less_is m n h = grind (arith, nat_tests)
 
 -- where no element stands below the next one, none stands below a later one
-falls_along : (w : List ℤ) (n : ℕ) → ((p : ℕ) → 1 ≤ p → p < n → pos 0 ≤ℤ difference w p (p + 1)) → (p j : ℕ) → 1 ≤ p → p + 1 + j ≤ n → pos 0 ≤ℤ difference w p (p + 1 + j)
+falls_along : (w : List ℤ) (n : ℕ) → ((p : ℕ) → 1 ≤ p → p < n → pos 0 ≤ℤ difference w p (p + 1)) → (p j : ℕ) → 1 ≤ p → p + 1 + j ≤ n
+    → pos 0 ≤ℤ difference w p (p + 1 + j)
 falls_along w n h p zero low within = rw add-zero (h p low (omega arith))
 falls_along w n h p (suc j) low within =
     let so_far : pos 0 ≤ℤ difference w p (p + 1 + j) = falls_along w n h p j low (omega arith) in
@@ -140,14 +137,16 @@ module _ (m : Judgements) (w : List ℤ) (n : ℤ) where
       (every-pairs m.size (λ p q. ((range_at m p q).hi == 0) ≡ true → Holds (Zero p q)) h))
 
   -- the rows of one pair
-  under_from : (p q : ℕ) → AllByRecursion Holds (cross_rows_under m (p, q) (pairs m.size)) → (x y : ℕ) → IsPair m.size x y → nat_lt (range_at m x y).hi (range_at m p q).lo ≡ true → Holds (Cross p q x y)
+  under_from : (p q : ℕ) → AllByRecursion Holds (cross_rows_under m (p, q) (pairs m.size)) → (x y : ℕ) → IsPair m.size x y
+      → nat_lt (range_at m x y).hi (range_at m p q).lo ≡ true → Holds (Cross p q x y)
   under_from p q h =
       every_at_pair m.size (λ x y. nat_lt (range_at m x y).hi (range_at m p q).lo ≡ true → Holds (Cross p q x y))
       (every_from_filter (λ right. Holds (Cross p q right.0 right.1)) (λ right. nat_lt (range_at m right.0 right.1).hi (range_at m p q).lo) (pairs m.size)
       (every_from_map Holds (λ right. Cross p q right.0 right.1) (filter (λ right. nat_lt (range_at m right.0 right.1).hi (range_at m p q).lo) (pairs m.size)) h))
 
   -- what makes the rows of one pair hold
-  under_every : (p q : ℕ) → ((x y : ℕ) → IsPair m.size x y → nat_lt (range_at m x y).hi (range_at m p q).lo ≡ true → Holds (Cross p q x y)) → AllByRecursion Holds (cross_rows_under m (p, q) (pairs m.size))
+  under_every : (p q : ℕ) → ((x y : ℕ) → IsPair m.size x y → nat_lt (range_at m x y).hi (range_at m p q).lo ≡ true → Holds (Cross p q x y))
+      → AllByRecursion Holds (cross_rows_under m (p, q) (pairs m.size))
   under_every p q h =
       every-map Holds (λ right. Cross p q right.0 right.1) (filter (λ right. nat_lt (range_at m right.0 right.1).hi (range_at m p q).lo) (pairs m.size))
       (every-filter (λ right. Holds (Cross p q right.0 right.1)) (λ right. nat_lt (range_at m right.0 right.1).hi (range_at m p q).lo) (pairs m.size)

@@ -19,13 +19,15 @@ abbrev changed : Judgements → ℕ → ℕ → Bounds × Bool → Judgements
 changed m p q cell = record { size = m.size; cells = slice_set m.cells (place m.size p q) cell }
 
 -- the pair that was changed
-pub cell_at-set_here : (m : Judgements) (p q : ℕ) (cell : Bounds × Bool) → length m.cells ≡ length (pairs m.size) → IsPair m.size p q → cell_at (changed m p q cell) p q ≡ cell
+pub cell_at-set_here : (m : Judgements) (p q : ℕ) (cell : Bounds × Bool) → length m.cells ≡ length (pairs m.size) → IsPair m.size p q
+    → cell_at (changed m p q cell) p q ≡ cell
 cell_at-set_here m p q cell each in_n =
     let below : place m.size p q < length m.cells = rw each (place-below m.size p q in_n) in
     get_or-set_same m.cells (place m.size p q) cell (full, false) below
 
 -- any other pair
-pub cell_at-set_other : (m : Judgements) (p q x y : ℕ) (cell : Bounds × Bool) → IsPair m.size p q → IsPair m.size x y → ¬ ((x ≡ p) × (y ≡ q)) → cell_at (changed m p q cell) x y ≡ cell_at m x y
+pub cell_at-set_other : (m : Judgements) (p q x y : ℕ) (cell : Bounds × Bool) → IsPair m.size p q → IsPair m.size x y → ¬ ((x ≡ p) × (y ≡ q))
+    → cell_at (changed m p q cell) x y ≡ cell_at m x y
 cell_at-set_other m p q x y cell in_n at_n apart =
     get_or-set_other m.cells (place m.size p q) (place m.size x y) cell (full, false)
     (λ e. apart (place_injective m.size p q x y in_n at_n e))
@@ -33,25 +35,3 @@ cell_at-set_other m p q x y cell in_n at_n apart =
 -- each pair where nothing is judged
 pub cell_at-unjudged : (n p q : ℕ) → IsPair n p q → cell_at (unjudged n) p q ≡ (full, false)
 cell_at-unjudged n p q in_n = get_or-replicate (length (pairs n)) (place n p q) (full, false) (full, false) (place-below n p q in_n)
-
--- all categories are a range
-IsRange-full : IsRange full
-IsRange-full = (omega arith, omega arith)
-
--- a new matrix keeps what a matrix keeps
-pub IsMatrix-unjudged : (n : ℕ) → 1 ≤ n → n ≤ LIMIT → IsMatrix (unjudged n)
-IsMatrix-unjudged n least most = record {
-  least = least;
-  most = most;
-  each = length-replicate (length (pairs n)) (full, false);
-  cells_are = All-replicate IsCell (length (pairs n)) (full, false) (IsRange-full, λ _. refl);
-}
-
--- and so does one more judgement
-pub IsMatrix-judged : (m : Judgements) (p q : ℕ) (range : Bounds) → IsRange range → IsMatrix m → IsMatrix (judged m p q range)
-IsMatrix-judged m p q range is h = record {
-  least = h.least;
-  most = h.most;
-  each = length-set m.cells (place m.size p q) (range, true) ∙ h.each;
-  cells_are = All-set IsCell m.cells (place m.size p q) (range, true) (is, λ e. cc) h.cells_are;
-}

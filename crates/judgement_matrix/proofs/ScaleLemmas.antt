@@ -93,7 +93,8 @@ key_same w v n k h =
     (SameFractions-over (order_key w) (order_key v) n k).1 (sym (key-scale k w) ∙ ap order_key ((SameFractions-over w v n k).0 h) ∙ key-scale n v)
 
 -- so they are smaller than the same scales, and the same are smaller
-pub IsSmaller-same : (w v x y : List ℤ) (n k l j : ℤ) → pos 0 <ℤ n → pos 0 <ℤ k → pos 0 <ℤ l → pos 0 <ℤ j → SameFractions (over w n) (over v k) → SameFractions (over x l) (over y j) → IsSmaller w n x l → IsSmaller v k y j
+pub IsSmaller-same : (w v x y : List ℤ) (n k l j : ℤ) → pos 0 <ℤ n → pos 0 <ℤ k → pos 0 <ℤ l → pos 0 <ℤ j → SameFractions (over w n) (over v k)
+    → SameFractions (over x l) (over y j) → IsSmaller w n x l → IsSmaller v k y j
 IsSmaller-same w v x y n k l j pn pk pl pj first second h =
     (LexLess-same (over (order_key w) n) (over (order_key v) k) (over (order_key x) l) (over (order_key y) j)
     (AreFractions-over (order_key w) n pn) (AreFractions-over (order_key v) k pk) (AreFractions-over (order_key x) l pl) (AreFractions-over (order_key y) j pj)
@@ -133,7 +134,8 @@ last_behind x (y ∷ ys) h =
     ap (λ i. get_or (x ∷ y ∷ ys) i (pos 0)) (sym at) ∙ h
 
 -- scales with the same key are the same
-key_injective : (xs ys : List ℤ) → length xs ≡ length ys → get_or xs (length xs - 1) (pos 0) ≡ pos 0 → get_or ys (length ys - 1) (pos 0) ≡ pos 0 → order_key xs ≡ order_key ys → xs ≡ ys
+key_injective : (xs ys : List ℤ) → length xs ≡ length ys → get_or xs (length xs - 1) (pos 0) ≡ pos 0 → get_or ys (length ys - 1) (pos 0) ≡ pos 0
+    → order_key xs ≡ order_key ys → xs ≡ ys
 key_injective [] [] long a b h = refl
 key_injective [] (y ∷ ys) long a b h = absurd (omega (arith, long))
 key_injective (x ∷ xs) [] long a b h = absurd (omega (arith, long))
@@ -150,7 +152,8 @@ scaled_zero c (x ∷ xs) zero h = ap (λ z. c *ℤ z) h ∙ ring1 (λ c. c ⊗ c
 scaled_zero c (x ∷ xs) (suc i) h = scaled_zero c xs i h
 
 -- of two scales one is smaller, or they are the same
-pub IsSmaller-cases : (m : Judgements) (w v : List ℤ) (n k : ℤ) → IsScale m w n → IsScale m v k → IsSmaller w n v k ⊎ SameFractions (over w n) (over v k) ⊎ IsSmaller v k w n
+pub IsSmaller-cases : (m : Judgements) (w v : List ℤ) (n k : ℤ) → IsScale m w n → IsScale m v k
+    → IsSmaller w n v k ⊎ SameFractions (over w n) (over v k) ⊎ IsSmaller v k w n
 IsSmaller-cases m w v n k first second =
     elim (LexLess-cases (over (order_key w) n) (over (order_key v) k)) [
       | inl below ↦ inl below

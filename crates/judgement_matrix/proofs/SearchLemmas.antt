@@ -15,7 +15,8 @@ or_behind (Ok None) behind = behind
 or_behind (Ok (Some tag)) behind = Ok (Some tag)
 or_behind (Err wide) behind = Err wide
 
-from_row-or_behind : (tag : Tag) (r : Result Bool TooWide) (here behind : Result (Option Tag) TooWide) → from_row tag (or_behind here behind) r ≡ or_behind (from_row tag here r) behind
+from_row-or_behind : (tag : Tag) (r : Result Bool TooWide) (here behind : Result (Option Tag) TooWide)
+    → from_row tag (or_behind here behind) r ≡ or_behind (from_row tag here r) behind
 from_row-or_behind tag (Ok true) here behind = refl
 from_row-or_behind tag (Ok false) here behind = refl
 from_row-or_behind tag (Err wide) here behind = refl
@@ -27,14 +28,16 @@ search_append fails (x ∷ xs) ys =
     ap (λ s. from_row x s (fails x)) (search_append fails xs ys) ∙ from_row-or_behind x (fails x) (first_stop fails xs) (first_stop fails ys)
 
 -- a search in all rows
-pub search_rows : (fails : Tag → Result Bool TooWide) (m : Judgements) → first_stop fails (rows m) ≡ or_behind (or_behind (or_behind (first_stop fails (lower_rows m)) (first_stop fails (zero_rows m))) (first_stop fails (cross_rows m))) (first_stop fails (order_rows m))
+pub search_rows : (fails : Tag → Result Bool TooWide) (m : Judgements)
+    → first_stop fails (rows m) ≡ or_behind (or_behind (or_behind (first_stop fails (lower_rows m)) (first_stop fails (zero_rows m))) (first_stop fails (cross_rows m))) (first_stop fails (order_rows m))
 search_rows fails m =
     search_append fails (lower_rows m ++ zero_rows m ++ cross_rows m) (order_rows m)
     ∙ ap (λ s. or_behind s (first_stop fails (order_rows m))) (search_append fails (lower_rows m ++ zero_rows m) (cross_rows m)
     ∙ ap (λ s. or_behind s (first_stop fails (cross_rows m))) (search_append fails (lower_rows m) (zero_rows m)))
 
 -- what is found is one of the rows
-pub search-among : (fails : Tag → Result Bool TooWide) (P : Tag → Type 0) (xs : List Tag) (x : Tag) → AllByRecursion P xs → first_stop fails xs ≡ Ok (Some x) → P x
+pub search-among : (fails : Tag → Result Bool TooWide) (P : Tag → Type 0) (xs : List Tag) (x : Tag) → AllByRecursion P xs
+    → first_stop fails xs ≡ Ok (Some x) → P x
 search-among fails P [] x all h = absurd (cc)
 search-among fails P (y ∷ xs) x all h = step (fails y) (search-among fails P xs x all.1) h
   where

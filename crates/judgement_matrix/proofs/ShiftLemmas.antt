@@ -1,11 +1,14 @@
 -- Shifts.
-use Rattle.std.proofs.Common.{◌≡◌, ℕ, zero, suc, ◌≤◌, ◌<◌, ℤ, pos, ◌+ℤ◌, ◌≤ℤ◌, unsigned_abs, Bool, List, [], ◌∷◌, length, replicate, All, refl, ap, ap₂, arith}
+use Rattle.std.proofs.Common.{◌≡◌, ℕ, zero, suc, ◌≤◌, ◌<◌, ℤ, pos, ◌+ℤ◌, ◌≤ℤ◌, unsigned_abs, Bool, List, [], ◌∷◌, length, replicate, All, refl, sym, ap, ap₂, subst, arith}
 use Rattle.std.proofs.lemmas.Int.{ints}
 use Rattle.std.proofs.lemmas.List.Elements.{All-head, All-tail}
 use Rattle.std.proofs.Math.IntN.{+ℤ_idr}
 use Rattle.judgement_matrix.specs.Range.{Bounds, bounds}
 use Rattle.judgement_matrix.specs.Matrix.{Judgements, IsCell, IsMatrix}
-use Rattle.judgement_matrix.specs.Repair.{IsLawfulStep, AreLawfulSteps, IsLawfulShift, moved, moved_cell, moved_cells, shifted}
+use Rattle.judgement_matrix.specs.Repair.{IsLawfulStep, AreLawfulSteps, IsLawfulShift, moved, moved_cell, moved_cells, shifted, shift_total, IsRepair, IsLeastRepair, IsNearShift, IsShiftBefore}
+use Rattle.judgement_matrix.specs.Scale.{IsConsistent}
+use Rattle.std.specs.Cmp.{int_cmp_total}
+use Rattle.std.specs.Cmp.Lexicographic.{lists_total}
 
 -- no step at all
 moved-zero : (k : ℕ) → moved k (pos 0) ≡ k
@@ -37,3 +40,21 @@ lawful-zeros (cell ∷ cells) h = (lawful-zero cell (All-head IsCell cell cells 
 -- and is lawful
 pub IsLawfulShift-zeros : (m : Judgements) → IsMatrix m → IsLawfulShift m (replicate (length m.cells) (pos 0))
 IsLawfulShift-zeros m h = lawful-zeros m.cells h.cells_are
+
+-- ---- repairs
+
+-- least repairs move by the same in all
+pub IsLeastRepair-total : (m : Judgements) (s t : List ℤ) → IsLeastRepair m s → IsLeastRepair m t → shift_total s ≡ shift_total t
+IsLeastRepair-total m s t h k = omega (arith, h.least t k.repair, k.least s h.repair)
+
+-- and are near where that is at most 4
+pub IsNearShift-least : (m : Judgements) (s : List ℤ) → IsLeastRepair m s → shift_total s ≤ 4 → IsNearShift m s
+IsNearShift-least m s h most = record { lawful = h.repair.lawful; most = most; least = h.least }
+
+-- a matrix that some scale meets is repaired by no shift
+pub IsRepair-zeros : (m : Judgements) → IsMatrix m → IsConsistent m → IsRepair m (replicate (length m.cells) (pos 0))
+IsRepair-zeros m h met = record { lawful = IsLawfulShift-zeros m h; consistent = subst IsConsistent (sym (shifted-zeros m)) met }
+
+-- the order of shifts is strict
+pub IsShiftBefore_irrefl : (s : List ℤ) → ¬ IsShiftBefore s s
+IsShiftBefore_irrefl s h = let turned = (lists_total int_cmp_total).antisymm s s in cc

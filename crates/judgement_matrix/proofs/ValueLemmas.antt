@@ -29,7 +29,8 @@ use Rattle.judgement_matrix.proofs.FitLemmas.{met_from_rows, IsFit-Meets, IsFit-
 -- ---- differences
 
 -- the difference v of f and g is that of a and b over n, where f and g are a and b over n
-difference_is : (fn fd gn gd vn vd a b n : ℤ) → pos 0 <ℤ fd → pos 0 <ℤ gd → a *ℤ fd ≡ fn *ℤ n → b *ℤ gd ≡ gn *ℤ n → vn *ℤ (fd *ℤ gd) ≡ (fn *ℤ gd -ℤ gn *ℤ fd) *ℤ vd → vn *ℤ n ≡ (a -ℤ b) *ℤ vd
+difference_is : (fn fd gn gd vn vd a b n : ℤ) → pos 0 <ℤ fd → pos 0 <ℤ gd → a *ℤ fd ≡ fn *ℤ n → b *ℤ gd ≡ gn *ℤ n
+    → vn *ℤ (fd *ℤ gd) ≡ (fn *ℤ gd -ℤ gn *ℤ fd) *ℤ vd → vn *ℤ n ≡ (a -ℤ b) *ℤ vd
 difference_is fn fd gn gd vn vd a b n pf pg first second is =
     cancel_eq (vn *ℤ n) ((a -ℤ b) *ℤ vd) (fd *ℤ gd) (mul_pos fd gd pf pg)
     (combine9 (λ fn fd gn gd vn vd a b n. vn ⊗ n ⊗ (fd ⊗ gd) ≗ (a ⊖ b) ⊗ vd ⊗ (fd ⊗ gd)
@@ -42,7 +43,8 @@ record IsValueOf (d n : ℤ) (v : Fraction) : Type 0 where
   same : v.num *ℤ n ≡ d *ℤ v.den
 
 -- a difference that isn't too wide
-difference_value : (f g v : Fraction) (a b n : ℤ) → IsFraction f → IsFraction g → a *ℤ f.den ≡ f.num *ℤ n → b *ℤ g.den ≡ g.num *ℤ n → checked_difference f g ≡ Ok v → IsValueOf (a -ℤ b) n v
+difference_value : (f g v : Fraction) (a b n : ℤ) → IsFraction f → IsFraction g → a *ℤ f.den ≡ f.num *ℤ n → b *ℤ g.den ≡ g.num *ℤ n
+    → checked_difference f g ≡ Ok v → IsValueOf (a -ℤ b) n v
 difference_value f g v a b n pf pg first second is =
     let exact = subst (λ r. IsExact r (DifferenceFits f g) (fraction_difference f g)) is (checked_difference-exact f g pf pg) in
     record { den_pos = exact.1.0; same = difference_is f.num f.den g.num g.den v.num v.den a b n pf pg first second exact.2 }
@@ -209,7 +211,8 @@ module _ (m : Judgements) (fs : List Fraction) (w : List ℤ) (n : ℤ) (are : A
   finds_behind tag tags (Err wide) s h = inr (s.0, h)
 
   -- with one more row in front
-  finds_next : (tag : Tag) (tags : List Tag) (r : Result Bool TooWide) → Says tag r → Finds tags (first_stop (row_fails m fs) tags) → Finds (tag ∷ tags) (from_row tag (first_stop (row_fails m fs) tags) r)
+  finds_next : (tag : Tag) (tags : List Tag) (r : Result Bool TooWide) → Says tag r → Finds tags (first_stop (row_fails m fs) tags)
+      → Finds (tag ∷ tags) (from_row tag (first_stop (row_fails m fs) tags) r)
   finds_next tag tags (Ok true) s h =
       (record { before = []; after = tags; stands = refl; hold = tt; fails = s.0 }, λ k. elim k [ inl wide ↦ s.1 wide | inr later ↦ s.0 later.0 ])
   finds_next tag tags (Ok false) s h = finds_behind tag tags (first_stop (row_fails m fs) tags) s h
@@ -241,20 +244,25 @@ module _ (m : Judgements) (fs : List Fraction) (w : List ℤ) (n : ℤ) (are : A
   answer_over h = answer_from (first_stop (row_fails m fs) (rows m)) (IsScale-from_values h) (finds (rows m))
 
 -- what a search finds is what is to be answered
-pub answer_is : (m : Judgements) (fs : List Fraction) (r : Result (Option Tag) TooWide) → AreFractions fs → AreValues m fs → r ≡ first_stop (row_fails m fs) (rows m) → IsAnswer m fs (answer_of r)
+pub answer_is : (m : Judgements) (fs : List Fraction) (r : Result (Option Tag) TooWide) → AreFractions fs → AreValues m fs
+    → r ≡ first_stop (row_fails m fs) (rows m) → IsAnswer m fs (answer_of r)
 answer_is m fs r are h e = λ w n writing. subst (λ s. IsAnswerOver m w n fs (answer_of s)) (sym e) (answer_over m fs w n are writing h)
 
 -- and it is that the scale meets the judgements exactly where it does
-pub answer_meets : (m : Judgements) (fs : List Fraction) (fit : Fit) → IsAnswer m fs (Ok fit) → (w : List ℤ) (n : ℤ) → IsWriting fs w n → (fit ≡ Meets) ↔ IsMetBy m w n
+pub answer_meets : (m : Judgements) (fs : List Fraction) (fit : Fit) → IsAnswer m fs (Ok fit) → (w : List ℤ) (n : ℤ) → IsWriting fs w n
+    → (fit ≡ Meets) ↔ IsMetBy m w n
 answer_meets m fs fit h w n writing = IsFit-Meets m w n fit (h w n writing).0
 
 -- a refusal
-pub answer_refused : (m : Judgements) (fs : List Fraction) (wide : TooWide) (a : Result Fit TooWide) → AreFractions fs → AreValues m fs → Err wide ≡ first_stop (row_fails m fs) (rows m) → IsErr a → IsAnswer m fs a
+pub answer_refused : (m : Judgements) (fs : List Fraction) (wide : TooWide) (a : Result Fit TooWide) → AreFractions fs → AreValues m fs
+    → Err wide ≡ first_stop (row_fails m fs) (rows m) → IsErr a → IsAnswer m fs a
 answer_refused m fs wide (Ok fit) are h e refused = absurd (cc)
 answer_refused m fs wide (Err other) are h e refused = answer_is m fs (Err wide) are h e
 
 -- what a cross row answers, from its three differences
-pub cross_row_by : (m : Judgements) (fs : List Fraction) (p q x y lo hi : ℕ) (l r v : Fraction) (b : Bool) → checked_gap fs p q ≡ Ok l → checked_gap fs x y ≡ Ok r → checked_difference l r ≡ Ok v → lo ≡ (range_at m p q).lo → hi ≡ (range_at m x y).hi → hi < lo → b ≡ int_lt v.num (pos (lo - hi) *ℤ v.den) → Ok b ≡ fails_where (nat_lt (range_at m x y).hi (range_at m p q).lo) (row_fails m fs (Cross p q x y))
+pub cross_row_by : (m : Judgements) (fs : List Fraction) (p q x y lo hi : ℕ) (l r v : Fraction) (b : Bool) → checked_gap fs p q ≡ Ok l
+    → checked_gap fs x y ≡ Ok r → checked_difference l r ≡ Ok v → lo ≡ (range_at m p q).lo → hi ≡ (range_at m x y).hi → hi < lo
+    → b ≡ int_lt v.num (pos (lo - hi) *ℤ v.den) → Ok b ≡ fails_where (nat_lt (range_at m x y).hi (range_at m p q).lo) (row_fails m fs (Cross p q x y))
 cross_row_by m fs p q x y lo hi l r v b left right both lo_is hi_is below is =
     let there : nat_lt hi lo ≡ true = grind (arith, nat_tests) in
     let bound : pos (lo - hi) ≡ pos lo -ℤ pos hi = omega (arith, ints) in

@@ -5,13 +5,6 @@ use Rattle.judgement_matrix.specs.Matrix.{pairs}
 use Rattle.judgement_matrix.specs.Walk.{pairs_from}
 use Rattle.judgement_matrix.proofs.PlaceLemmas.{row}
 
--- past the last pair
-pub pairs_from-end : (n p q : ℕ) → n < q → n ≤ p → pairs_from n p q ≡ []
-pairs_from-end n p q above past =
-    let e : n + 1 - q ≡ 0 = omega arith in
-    let f : n - 1 - p ≡ 0 = omega arith in
-    rw (e, f)
-
 -- a row goes on
 pub pairs_from-more : (n p q : ℕ) → q ≤ n → pairs_from n p q ≡ (p, q) ∷ pairs_from n p (q + 1)
 pairs_from-more n p q h =
@@ -38,9 +31,3 @@ pub pairs_from-turn : (n p q : ℕ) → q ≡ n → p < q → pairs_from n p q �
 pairs_from-turn n p q at_end h =
     let e : n + 1 - q ≡ 1 = omega arith in
     rw e (ap (λ xs. (p, q) ∷ xs) (pairs_from-rows n p (omega arith)))
-
--- the walk begins with all pairs
-pub pairs_from-start : (n : ℕ) → 1 ≤ n → pairs_from n 1 2 ≡ pairs n
-pairs_from-start n h =
-    let e : n - 1 - 0 ≡ n - 1 = omega arith in
-    sym (rw e at (pairs_from-rows n 0 h))

@@ -8,11 +8,11 @@ ghost use Rattle.judgement_matrix.specs.Range.{full};
 ghost use Rattle.judgement_matrix.specs.Matrix.{IsPair, pairs, pairs_before, place, cell_at, unjudged, judged, cleared};
 ghost use Rattle.judgement_matrix.specs.Same.{same_judgements};
 ghost use Rattle.judgement_matrix.specs.Change.{grown, grown_cell, without, left_cell};
-ghost use Rattle.judgement_matrix.specs.Scale.{value_at, IsScale, IsMetInUnit, IsMetBy};
+ghost use Rattle.judgement_matrix.specs.Scale.{value_at, IsScale, IsMetInUnit, IsMetBy, IsConsistent};
 ghost use Rattle.judgement_matrix.specs.Rows.{RowHolds, rows, IsFit};
 ghost use Rattle.judgement_matrix.specs.Values.{AreValues, IsAnswer};
 ghost use Rattle.judgement_matrix.specs.Least.{IsSmaller, IsLeastScale};
-ghost use Rattle.judgement_matrix.specs.Repair.{IsLawfulShift, shifted};
+ghost use Rattle.judgement_matrix.specs.Repair.{IsLawfulShift, shifted, shift_total, IsRepair, IsLeastRepair, IsNearShift, IsShiftBefore};
 
 use crate::matrix::Matrix;
 use crate::range::Range;
@@ -142,6 +142,19 @@ pub fn zeros_meet_what_is_unjudged(size: usize)
 pub fn no_shift(matrix: &Matrix)
     ensures lawful { IsLawfulShift matrix.now (replicate (length matrix.now.cells) (pos 0)) }
     ensures same { shifted matrix.now (replicate (length matrix.now.cells) (pos 0)) ≡ matrix.now }
+{
+    // What a matrix keeps is told by its size.
+    prove!(matrix.size() >= 1);
+}
+
+/// States that least repairs move by the same in all, that they are near where that is at most 4, that a matrix which some
+/// scale meets is repaired by no shift, and that no shift stands before itself. It does nothing.
+pub fn repairs(matrix: &Matrix)
+    ensures totals { (s t : List ℤ) → IsLeastRepair matrix.now s → IsLeastRepair matrix.now t
+        → shift_total s ≡ shift_total t }
+    ensures near { (s : List ℤ) → IsLeastRepair matrix.now s → shift_total s ≤ 4 → IsNearShift matrix.now s }
+    ensures none { IsConsistent matrix.now → IsRepair matrix.now (replicate (length matrix.now.cells) (pos 0)) }
+    ensures strict { (s : List ℤ) → ¬ IsShiftBefore s s }
 {
     // What a matrix keeps is told by its size.
     prove!(matrix.size() >= 1);
