@@ -1,8 +1,16 @@
 pub mod CertificateLemmas
 pub mod ColumnLemmas
 pub mod EntryLemmas
+pub mod EntryTexts
 pub mod FarkasLemmas
+pub mod HeadTexts
+pub mod LineLemmas
+pub mod NumberLemmas
+pub mod OneText
+pub mod PrintedWords
+pub mod PrintingLemmas
 pub mod ReachedLemmas
 pub mod SpanLemmas
 pub mod SumLemmas
 pub mod UniqueVerdict
+pub mod WordLemmas

@@ -1,9 +1,11 @@
 //! What the definitions in the contracts amount to: functions that do nothing, whose contracts are the laws.
 
-ghost use Rattle.std.specs.Prelude.{◌≡◌, ◌↔◌};
+ghost use Rattle.std.specs.Prelude.{◌≡◌, ◌↔◌, ℕ};
 ghost use Rattle.frac128.specs.Problem.{IsSpanCertificate, IsFarkasCertificate};
+ghost use Rattle.cert_check.specs.Text.{IsTextOf, IsFirstBad};
 ghost use Rattle.cert_check.specs.Lines.{AllSay, IsVerdict, span_check, farkas_check};
 
+use crate::text::CertText;
 use crate::verdict::Verdict;
 use frac128::problem::{Cert, Problem};
 use frac128::{Frac, TooWide};
@@ -47,4 +49,12 @@ pub fn one_farkas_verdict(
     requires first { IsVerdict (farkas_check problem.now cert.now) first.now }
     requires second { IsVerdict (farkas_check problem.now cert.now) second.now }
     ensures { first.now ≡ second.now }
+{}
+
+/// States that bytes are the text of one certificate at most, and then have no bad line. It does nothing.
+pub fn one_text(bytes: &[u8], first: &CertText, second: &CertText)
+    requires first { IsTextOf bytes.now first.now }
+    requires second { IsTextOf bytes.now second.now }
+    ensures same { first.now ≡ second.now }
+    ensures no_bad_line { (k : ℕ) → ¬ IsFirstBad bytes.now k }
 {}

@@ -5,11 +5,21 @@ mod check;
 mod columns;
 mod entries;
 pub mod laws;
+mod numbers;
+mod printing;
+mod reading;
 mod sums;
+mod text;
 mod verdict;
+mod words;
 
 pub use check::{check_dual, check_farkas};
+pub use printing::{print_cert, read_printed};
+pub use reading::read_cert;
+pub use text::{CertFault, CertText, Claim};
 pub use verdict::{Place, Verdict};
 
 #[cfg(test)]
 mod check_tests;
+#[cfg(test)]
+mod text_tests;
