@@ -1,5 +1,5 @@
 -- The coefficients and the bound of a combination as sums over the entries.
-use Rattle.std.proofs.Common.{◌≡◌, ℕ, length, map, get_or, List, [], ◌∷◌, ℤ, pos, ◌+ℤ◌, ◌*ℤ◌, ◌≤ℤ◌, refl, sym, ap, subst, ◌∙◌}
+use Rattle.std.proofs.Common.{◌≡◌, ℕ, get_or, List, [], ◌∷◌, ℤ, pos, ◌+ℤ◌, ◌*ℤ◌, refl, sym, ap, ◌∙◌}
 use Rattle.integers.specs.Vector.{dot, int_sum, column_of}
 use Rattle.frac128.specs.Problem.{ProblemData, row_at, multipliers, combination}
 use Rattle.frac128.specs.declared.problem.Row.{Row}

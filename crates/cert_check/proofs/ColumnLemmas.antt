@@ -1,11 +1,10 @@
 -- A walk over the columns.
-use Rattle.std.proofs.Common.{◌≡◌, ◌↔◌, ◌⊎◌, inl, inr, ℕ, ◌+◌, ◌<◌, ◌≤◌, get_or, List, ℤ, pos, ◌*ℤ◌, ◌≤ℤ◌, Bool, sym, subst, arith}
-use Rattle.std.specs.Prelude.{All, IsTrue}
+use Rattle.std.proofs.Common.{◌≡◌, ◌↔◌, ◌⊎◌, inl, inr, ℕ, ◌+◌, ◌<◌, get_or, List, ℤ, pos, ◌*ℤ◌, ◌≤ℤ◌, Bool, sym, subst, arith}
+use Rattle.std.specs.Prelude.{IsTrue}
 use Rattle.std.proofs.lemmas.Bool.{cases_order}
 use Rattle.integers.specs.Vector.{int_sum}
 use Rattle.frac128.specs.Problem.{ProblemData}
-use Rattle.frac128.specs.Range.{IsInRange}
-use Rattle.cert_check.specs.Entries.{products_on, added_in_turn, coefficient}
+use Rattle.cert_check.specs.Entries.{products_on, coefficient}
 use Rattle.cert_check.specs.Columns.{IsColumnBelow, ColumnFits, PassBefore}
 
 -- what holds below a number and at it holds below the next

@@ -1,14 +1,13 @@
 -- Entries of a text, by the kind that their first word tells.
-use Rattle.std.proofs.Common.{◌≡◌, ◌≢◌, ℕ, ◌+◌, ◌<◌, ◌≤◌, length, List, [], ◌∷◌, ◌++◌, ℤ, refl, sym, ap, subst, ◌∙◌, arith, append_assoc, append-nil, get_or}
+use Rattle.std.proofs.Common.{◌≡◌, ◌≢◌, ℕ, ◌<◌, length, List, [], ◌∷◌, ◌++◌, ℤ, refl, sym, ap, ◌∙◌, arith, append_assoc, append-nil, get_or}
 use Rattle.std.specs.Prelude.{All}
-use Rattle.std.specs.Fmt.{decimal, signed_decimal}
-use Rattle.std.proofs.lemmas.Int.{ints}
+use Rattle.std.specs.Fmt.{signed_decimal}
 use Rattle.std.proofs.lemmas.Grind.{flat_map-append}
 use Rattle.std.proofs.lemmas.List.{length-append}
 use Rattle.std.proofs.lemmas.List.Elements.{All-nil, All-cons, All-append}
 use Rattle.judgement_matrix.specs.declared.tag.Tag.{Tag}
 use Rattle.judgement_matrix.specs.declared.tag.Tag.TheVariants.{Lower, Zero, Cross, Order}
-use Rattle.cert_check.specs.Reading.{words, Found, IsPairText, IsCrossText, IsPrintedEntry, HasEntries}
+use Rattle.cert_check.specs.Reading.{words, IsPairText, IsCrossText, IsPrintedEntry, HasEntries}
 use Rattle.cert_check.specs.Text.{IsEntryText, tag_words, entry_words, entries_text, line_of, BeginWithNo}
 use Rattle.cert_check.specs.declared.text.TheConstants.{LOWER, ZERO, CROSS}
 use Rattle.cert_check.proofs.LineLemmas.{no_line, other_line, this_line}

@@ -1,6 +1,6 @@
 -- The lines of a Farkas certificate.
-use Rattle.std.proofs.Common.{◌≡◌, ◌↔◌, ℕ, zero, suc, ◌+◌, ◌-◌, ◌<◌, ◌≤◌, length, get_or, List, [], ℤ, pos, ◌*ℤ◌, ◌≤ℤ◌, ◌<ℤ◌, sym, subst, ◌∙◌, arith}
-use Rattle.std.specs.Prelude.{All, Result, Ok, Err, ◌^◌, unsigned_abs}
+use Rattle.std.proofs.Common.{◌≡◌, ◌↔◌, ℕ, ◌+◌, ◌-◌, ◌<◌, ◌≤◌, length, get_or, ℤ, pos, ◌*ℤ◌, ◌≤ℤ◌, ◌<ℤ◌, sym, subst, ◌∙◌, arith}
+use Rattle.std.specs.Prelude.{All}
 use Rattle.std.proofs.Math.IntN.{zero-*ℤ}
 use Rattle.std.proofs.lemmas.List.{get_or_default}
 use Rattle.std.proofs.lemmas.List.Elements.{All-nil}
@@ -11,9 +11,8 @@ use Rattle.frac128.specs.declared.problem.Cert.{Cert}
 use Rattle.frac128.proofs.Combination.{length-combination}
 use Rattle.cert_check.specs.Entries.{IsEntry, products_on, added_in_turn, coefficient, bound}
 use Rattle.cert_check.specs.First.{IsFirstFailing}
-use Rattle.cert_check.specs.Columns.{IsColumnBelow, ColumnFits, PassBefore, IsFailingColumn, IsWideColumn}
-use Rattle.cert_check.specs.Lines.{Passes, IsReached, IsFirstFalse, IsFirstTooWide, IsPassed, AllSay, farkas_check, IsCommonLine, FarkasLineSays}
-use Rattle.cert_check.specs.declared.verdict.Place.{Place}
+use Rattle.cert_check.specs.Columns.{IsColumnBelow, PassBefore, IsFailingColumn, IsWideColumn}
+use Rattle.cert_check.specs.Lines.{Passes, IsReached, IsFirstFalse, IsFirstTooWide, IsPassed, AllSay, farkas_check, IsCommonLine}
 use Rattle.cert_check.specs.declared.verdict.Place.TheVariants.{Den, Entry, Column, Bound}
 use Rattle.cert_check.proofs.CertificateLemmas.{coefficient_is, bound_is}
 use Rattle.cert_check.proofs.EntryLemmas.{IsEntry-at, AreRowMultipliers-from_entries}

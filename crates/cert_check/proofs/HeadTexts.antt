@@ -1,5 +1,5 @@
 -- The first line of a text, and what follows it.
-use Rattle.std.proofs.Common.{◌≡◌, ◌≢◌, ◌⊎◌, inl, inr, ℕ, ◌+◌, ◌<◌, length, List, [], ◌∷◌, ◌++◌, ℤ, refl, sym, ap, subst, ◌∙◌, arith, append_assoc, append-nil}
+use Rattle.std.proofs.Common.{◌≡◌, ◌≢◌, inl, inr, ℕ, length, List, [], ◌∷◌, ◌++◌, ℤ, refl, sym, ap, subst, ◌∙◌, arith, append-nil}
 use Rattle.std.specs.Prelude.{All}
 use Rattle.std.specs.Fmt.{decimal}
 use Rattle.std.proofs.lemmas.List.{length-append}
@@ -9,8 +9,8 @@ use Rattle.cert_check.specs.declared.text.CertFault.TheVariants.{Bad, NoMemory}
 use Rattle.cert_check.specs.declared.text.CertText.{CertText}
 use Rattle.cert_check.specs.declared.text.Head.{Head}
 use Rattle.cert_check.specs.declared.text.TheConstants.{ROWS}
-use Rattle.cert_check.specs.Reading.{words, IsPrintedHead, HasEntries, AreEntries, IsBadAfter, IsEntriesFault}
-use Rattle.cert_check.specs.Text.{IsHead, claim_words, head_words, head_of, line_of, entries_text, BeginWithNo, HasRead, IsBadEntry, IsFirstBad, IsFault, IsTextOf}
+use Rattle.cert_check.specs.Reading.{words, IsPrintedHead, HasEntries, AreEntries, IsEntriesFault}
+use Rattle.cert_check.specs.Text.{IsHead, claim_words, head_words, head_of, line_of, entries_text, HasRead, IsFirstBad, IsFault, IsTextOf}
 use Rattle.cert_check.proofs.LineLemmas.{no_line, other_line, this_line}
 use Rattle.cert_check.proofs.PrintedWords.{head_is_words}
 

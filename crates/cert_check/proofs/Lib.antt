@@ -2,9 +2,11 @@ pub mod CertificateLemmas
 pub mod ColumnLemmas
 pub mod EntryLemmas
 pub mod EntryTexts
+pub mod FailsLemmas
 pub mod FarkasLemmas
 pub mod HeadTexts
 pub mod LineLemmas
+pub mod NamingLemmas
 pub mod NumberLemmas
 pub mod OneText
 pub mod PrintedWords

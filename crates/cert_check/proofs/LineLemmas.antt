@@ -1,11 +1,11 @@
 -- Lines at the start of a text.
-use Rattle.std.proofs.Common.{◌≡◌, ◌≢◌, ℕ, zero, suc, ◌+◌, ◌==◌, ◌<◌, length, nat_lt, get_or, List, [], ◌∷◌, ◌++◌, true, false, Bool, ◌&&◌, refl, sym, ap, subst, ◌∙◌, arith, append_assoc}
-use Rattle.std.specs.Prelude.{All, Option, Some, None, MatchOption}
-use Rattle.std.specs.List.{list_all, join_with_byte}
+use Rattle.std.proofs.Common.{◌≡◌, ◌≢◌, ℕ, ◌==◌, List, [], ◌∷◌, ◌++◌, false, refl, sym, ap, subst, ◌∙◌, arith, append_assoc}
+use Rattle.std.specs.Prelude.{All}
+use Rattle.std.specs.List.{join_with_byte}
 use Rattle.std.proofs.lemmas.Bool.Decides.{nat_tests}
 use Rattle.std.proofs.lemmas.List.Elements.{All-nil, All-cons, All-head, All-tail, All-append}
 use Rattle.std.proofs.lemmas.List.Splits.{slice_split_none, slice_split_at, join_with_byte-slice_split}
-use Rattle.cert_check.specs.Reading.{words, Found}
+use Rattle.cert_check.specs.Reading.{words}
 use Rattle.cert_check.specs.Text.{line_of, BeginWithNo}
 use Rattle.cert_check.proofs.PrintedWords.{IsWord, AreWords}
 

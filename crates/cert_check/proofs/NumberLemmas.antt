@@ -1,5 +1,5 @@
 -- Numbers that are read only as they are printed.
-use Rattle.std.proofs.Common.{◌≡◌, ◌≢◌, ◌↔◌, ℕ, zero, suc, ◌<◌, ◌≤◌, ◌^◌, List, Result, Ok, Err, ℤ, pos, ◌<ℤ◌, unsigned_abs, refl, sym, ap, subst, ◌∙◌, arith}
+use Rattle.std.proofs.Common.{◌≡◌, ◌≢◌, ◌↔◌, ℕ, ◌≤◌, List, Result, Ok, ℤ, pos, refl, sym, ap, subst, ◌∙◌, arith}
 use Rattle.std.specs.Fmt.{decimal, signed_decimal}
 use Rattle.std.specs.Result.{IfOk, IsErrOf}
 use Rattle.std.proofs.Math.Nat.{eq-one_of_dvd-one}

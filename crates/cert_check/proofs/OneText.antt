@@ -1,5 +1,5 @@
 -- Bytes are the text of one certificate at most, and then no line of them is bad.
-use Rattle.std.proofs.Common.{◌≡◌, ◌≢◌, ◌⊎◌, inl, inr, ℕ, ◌+◌, ◌<◌, ◌≤◌, ◌^◌, length, List, [], ◌∷◌, ◌++◌, ℤ, pos, refl, sym, ap, subst, ◌∙◌, arith, append_assoc, append-nil}
+use Rattle.std.proofs.Common.{◌≡◌, inl, inr, ℕ, ◌+◌, ◌<◌, ◌^◌, length, List, [], ◌∷◌, ◌++◌, ℤ, pos, refl, sym, ap, subst, ◌∙◌, arith, append_assoc, append-nil}
 use Rattle.std.specs.Prelude.{All, get_or, Result, Ok, Err, MatchResult, IfOk}
 use Rattle.cert_check.specs.declared.text.CertFault.{CertFault}
 use Rattle.cert_check.specs.declared.text.CertFault.TheVariants.{Bad, NoMemory}
@@ -8,7 +8,6 @@ use Rattle.std.specs.List.{join_with_byte}
 use Rattle.std.proofs.lemmas.Int.{ints}
 use Rattle.std.proofs.lemmas.List.{length-append}
 use Rattle.std.proofs.lemmas.List.Elements.{All-head, All-tail}
-use Rattle.integers.specs.Fraction.{Fraction}
 use Rattle.frac128.specs.Text.{frac_text}
 use Rattle.judgement_matrix.specs.declared.tag.Tag.{Tag}
 use Rattle.judgement_matrix.specs.declared.tag.Tag.TheVariants.{Lower, Zero, Cross, Order}
@@ -17,7 +16,7 @@ use Rattle.cert_check.specs.declared.text.Head.{Head}
 use Rattle.cert_check.specs.declared.text.Claim.{Claim}
 use Rattle.cert_check.specs.declared.text.Claim.TheVariants.{Least, Nothing}
 use Rattle.cert_check.specs.declared.text.TheConstants.{LOWER, ZERO, CROSS, LEAST, NOTHING}
-use Rattle.cert_check.specs.Text.{ArePositions, IsTagText, IsEntryText, IsClaim, IsHead, tag_words, entry_words, claim_words, head_words, head_of, line_of, entries_text, IsTextOf, HasTagText, IsReadable, IsPrintable, IsFault, cert_text, BeginWithNo, HasRead, IsBadEntry, IsFirstBad}
+use Rattle.cert_check.specs.Text.{ArePositions, IsTagText, IsEntryText, IsClaim, IsHead, tag_words, entry_words, head_words, head_of, line_of, entries_text, IsTextOf, HasTagText, IsReadable, IsPrintable, IsFault, cert_text, IsFirstBad}
 use Rattle.cert_check.proofs.EntryTexts.{first_differs, entry_filled}
 use Rattle.cert_check.proofs.HeadTexts.{head_filled}
 use Rattle.cert_check.proofs.LineLemmas.{same_words}

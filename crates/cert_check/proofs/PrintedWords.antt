@@ -1,20 +1,18 @@
 -- The words of a certificate's text have no space and no newline in them.
-use Rattle.std.proofs.Common.{◌≡◌, ◌≢◌, ℕ, zero, suc, ◌<◌, ◌^◌, ◌==◌, nat_lt, List, [], ◌∷◌, ◌++◌, true, false, Bool, ◌&&◌, ℤ, pos, negsuc, unsigned_abs, refl, sym, ap, subst, ◌∙◌, arith}
+use Rattle.std.proofs.Common.{◌≡◌, ℕ, suc, ◌<◌, ◌^◌, ◌==◌, nat_lt, List, [], ◌∷◌, ◌++◌, true, false, Bool, ℤ, pos, negsuc, unsigned_abs, refl, ◌∙◌, arith}
 use Rattle.std.specs.Prelude.{if◌then◌else◌, ⊤}
 use Rattle.std.specs.List.{list_all}
 use Rattle.std.specs.Fmt.{decimal, signed_decimal}
 use Rattle.std.specs.Char.{is_ascii_digit}
-use Rattle.std.specs.Str.Parse.{AllDigits, IsNumeral}
 use Rattle.std.proofs.lemmas.Bool.Decides.{nat_tests}
 use Rattle.std.proofs.lemmas.Fmt.{decimal_is_IsNumeral_wide}
 use Rattle.std.proofs.lemmas.List.Folds.{list_all-append}
 use Rattle.integers.specs.Fraction.{Fraction}
-use Rattle.frac128.specs.Range.{IsInRange}
 use Rattle.frac128.specs.Text.{frac_text}
 use Rattle.frac128.proofs.DigitLemmas.{test-from_AllDigits}
 use Rattle.judgement_matrix.specs.declared.tag.Tag.{Tag}
 use Rattle.judgement_matrix.specs.declared.tag.Tag.TheVariants.{Lower, Zero, Cross, Order}
-use Rattle.cert_check.specs.Text.{ArePositions, IsTagText, IsEntryText, IsClaim, IsHead, IsValue, tag_words, entry_words, claim_words, head_words}
+use Rattle.cert_check.specs.Text.{IsTagText, IsEntryText, IsClaim, IsHead, IsValue, tag_words, entry_words, claim_words, head_words}
 use Rattle.cert_check.specs.declared.text.Head.{Head}
 use Rattle.cert_check.specs.declared.text.TheConstants.{ROWS}
 use Rattle.cert_check.specs.declared.text.Claim.{Claim}

@@ -1,6 +1,6 @@
 -- Lines made of words, each with a space behind it, and a last word.
 use Rattle.std.proofs.Common.{◌≡◌, ℕ, ◌+◌, ◌<◌, length, get_or, take, ℤ, List, [], ◌∷◌, ◌++◌, refl, sym, ap, ◌∙◌, append_assoc, append-nil}
-use Rattle.std.specs.List.{flat_map, join_with_byte}
+use Rattle.std.specs.List.{join_with_byte}
 use Rattle.std.proofs.lemmas.Grind.{flat_map-append}
 use Rattle.cert_check.specs.Printing.{spaced}
 use Rattle.std.proofs.lemmas.List.{take_more, flat_map_more}

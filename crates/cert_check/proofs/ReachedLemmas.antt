@@ -1,5 +1,5 @@
 -- What a check has seen where it comes to a line.
-use Rattle.std.proofs.Common.{ℕ, ◌<◌, ◌≡◌, ◌↔◌}
+use Rattle.std.proofs.Common.{ℕ, ◌<◌, ◌↔◌}
 use Rattle.std.specs.Prelude.{Result, Ok, Err, IsErr}
 use Rattle.frac128.specs.declared.number.TooWide.{TooWide}
 use Rattle.cert_check.specs.declared.verdict.Place.{Place}

@@ -1,5 +1,5 @@
 -- The lines of a span certificate.
-use Rattle.std.proofs.Common.{◌≡◌, ◌↔◌, ℕ, zero, suc, ◌+◌, ◌-◌, ◌<◌, ◌≤◌, length, get_or, List, [], ◌∷◌, ℤ, pos, ◌*ℤ◌, ◌≤ℤ◌, ◌<ℤ◌, sym, subst, ◌∙◌, arith}
+use Rattle.std.proofs.Common.{◌≡◌, ◌↔◌, ℕ, ◌+◌, ◌-◌, ◌<◌, ◌≤◌, length, get_or, ◌∷◌, ℤ, pos, ◌*ℤ◌, ◌≤ℤ◌, ◌<ℤ◌, sym, subst, ◌∙◌, arith}
 use Rattle.std.specs.Prelude.{All}
 use Rattle.std.proofs.lemmas.List.Elements.{All-nil, All-cons, All-head, All-tail}
 use Rattle.integers.specs.Fraction.{Fraction, IsFraction, SameFraction}
@@ -11,8 +11,7 @@ use Rattle.frac128.proofs.Combination.{below_cost-from_places, below_cost-at}
 use Rattle.cert_check.specs.Entries.{IsEntry, products_on, added_in_turn, coefficient, bound}
 use Rattle.cert_check.specs.First.{IsFirstFailing}
 use Rattle.cert_check.specs.Columns.{IsColumnBelow, ColumnFits, PassBefore, IsFailingColumn, IsWideColumn}
-use Rattle.cert_check.specs.Lines.{Passes, IsReached, IsFirstFalse, IsFirstTooWide, IsPassed, AllSay, span_check, IsCommonLine, SpanLineSays}
-use Rattle.cert_check.specs.declared.verdict.Place.{Place}
+use Rattle.cert_check.specs.Lines.{Passes, IsReached, IsFirstFalse, IsFirstTooWide, IsPassed, AllSay, span_check, IsCommonLine}
 use Rattle.cert_check.specs.declared.verdict.Place.TheVariants.{Den, Entry, Column, Bound}
 use Rattle.cert_check.proofs.CertificateLemmas.{coefficient_is, bound_is}
 use Rattle.cert_check.proofs.EntryLemmas.{IsEntry-at}

@@ -1,5 +1,5 @@
 -- A check has one answer.
-use Rattle.std.proofs.Common.{◌≡◌, ◌⊎◌, inl, inr, ℕ, ◌<◌, refl, sym, ap, subst}
+use Rattle.std.proofs.Common.{◌≡◌, ◌⊎◌, inl, inr, ◌<◌, refl, ap, subst}
 use Rattle.std.specs.Prelude.{Result, Ok, Err}
 use Rattle.std.proofs.lemmas.Bool.{cases_order}
 use Rattle.frac128.specs.declared.number.TooWide.{TooWide}
@@ -7,7 +7,7 @@ use Rattle.cert_check.specs.declared.verdict.Place.{Place}
 use Rattle.cert_check.specs.declared.verdict.Place.TheVariants.{Den, Entry, Column, Bound}
 use Rattle.cert_check.specs.declared.verdict.Verdict.{Verdict}
 use Rattle.cert_check.specs.declared.verdict.Verdict.TheVariants.{Holds, Fails}
-use Rattle.cert_check.specs.Lines.{Check, IsBefore, Passes, Fits, IsReached, IsFirstFalse, IsFirstTooWide, IsPassed, IsVerdict}
+use Rattle.cert_check.specs.Lines.{Check, IsBefore, Passes, Fits, IsReached, IsVerdict}
 
 -- of two lines one is before the other, or they are one
 order : (a b : Place) → (a ≡ b) ⊎ (IsBefore a b ⊎ IsBefore b a)

@@ -1,5 +1,5 @@
 -- The entries of a certificate, and the sums that are formed of the rows that they name.
-use Rattle.std.specs.Prelude.{◌≡◌, ℕ, ◌+◌, ◌<◌, List, [], ◌∷◌, length, map, ℤ, pos, ◌+ℤ◌, ◌*ℤ◌, ◌≤ℤ◌, get_or}
+use Rattle.std.specs.Prelude.{◌≡◌, ℕ, ◌+◌, ◌<◌, List, [], ◌∷◌, map, ℤ, pos, ◌+ℤ◌, ◌*ℤ◌, ◌≤ℤ◌, get_or}
 use Rattle.frac128.specs.Problem.{row_at}
 use Rattle.frac128.specs.declared.problem.Row.{Row}
 

@@ -4,4 +4,5 @@ pub mod First
 pub mod Lines
 pub mod Printing
 pub mod Reading
+pub mod Rows
 pub mod Text

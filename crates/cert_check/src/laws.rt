@@ -1,6 +1,10 @@
 //! What the definitions in the contracts amount to: functions that do nothing, whose contracts are the laws.
 
-ghost use Rattle.std.specs.Prelude.{◌≡◌, ◌↔◌, ℕ};
+ghost use Rattle.std.specs.Prelude.{◌≡◌, ◌↔◌, ◌≤◌, ℕ, ℤ, List as Items};
+ghost use Rattle.integers.specs.Fraction.{Fraction, FractionAtMost};
+ghost use Rattle.judgement_matrix.specs.Scale.{value_at, IsScale, IsMetBy, IsInconsistent};
+ghost use Rattle.lp_macbeth.specs.Rows.{problem_of};
+ghost use Rattle.cert_check.specs.Rows.{NeverRises, FailsNamedRow};
 ghost use Rattle.frac128.specs.Problem.{IsSpanCertificate, IsFarkasCertificate};
 ghost use Rattle.cert_check.specs.Text.{IsTextOf, IsFirstBad};
 ghost use Rattle.cert_check.specs.Lines.{AllSay, IsVerdict, span_check, farkas_check};
@@ -9,6 +13,7 @@ use crate::text::CertText;
 use crate::verdict::Verdict;
 use frac128::problem::{Cert, Problem};
 use frac128::{Frac, TooWide};
+use judgement_matrix::Matrix;
 
 /// States that the lines of a span certificate together say that it is one. It does nothing.
 pub fn span_lines(problem: &Problem, value: &Frac, cert: &Cert)
@@ -57,4 +62,21 @@ pub fn one_text(bytes: &[u8], first: &CertText, second: &CertText)
     requires second { IsTextOf bytes.now second.now }
     ensures same { first.now ≡ second.now }
     ensures no_bad_line { (k : ℕ) → ¬ IsFirstBad bytes.now k }
+{}
+
+/// States that a Farkas certificate of the problem of a matrix names, with a multiplier above 0, a row that a scale fails, for
+/// each scale whose values don't rise, over each denominator. It does nothing.
+pub fn refuted_by_a_named_row(matrix: &Matrix, cert: &Cert)
+    requires size { 2 ≤ matrix.now.size }
+    requires refutes { IsFarkasCertificate (problem_of matrix.now) cert.now }
+    ensures { (w : Items ℤ) (n : ℤ) → IsScale matrix.now w n → NeverRises matrix.now w → FailsNamedRow matrix.now cert.now w n }
+{}
+
+/// States that a span certificate of the problem of a matrix bounds the span, the first value, of each scale that meets the
+/// matrix, and that with a Farkas certificate no scale meets it. It does nothing.
+pub fn certificates_speak_of_scales(matrix: &Matrix, cert: &Cert)
+    requires { 2 ≤ matrix.now.size }
+    ensures span { (value : Fraction) (w : Items ℤ) (n : ℤ) → IsSpanCertificate (problem_of matrix.now) cert.now value
+        → IsMetBy matrix.now w n → FractionAtMost value (record { num = value_at w 1; den = n }) }
+    ensures none { IsFarkasCertificate (problem_of matrix.now) cert.now → IsInconsistent matrix.now }
 {}

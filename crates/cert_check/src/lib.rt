@@ -6,6 +6,7 @@ mod columns;
 mod entries;
 pub mod laws;
 mod numbers;
+mod placing;
 mod printing;
 mod reading;
 mod sums;
@@ -14,6 +15,7 @@ mod verdict;
 mod words;
 
 pub use check::{check_dual, check_farkas};
+pub use placing::{Placed, name_rows, place};
 pub use printing::{print_cert, read_printed};
 pub use reading::read_cert;
 pub use text::{CertFault, CertText, Claim};

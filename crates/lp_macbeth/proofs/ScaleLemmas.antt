@@ -36,7 +36,7 @@ pub dot-opposite : (xs us : List ℤ) → dot (opposite xs) us ≡ neg_ℤ (dot 
 dot-opposite xs us = dot-scale (negsuc 0) xs us ∙ minus_one-*ℤ (dot xs us)
 
 -- a row holds at gaps exactly where its constraint holds of their scale
-met_row : (m : Judgements) (x : List ℤ) (n : ℤ) (tag : Tag) → suc (length x) ≡ m.size → IsTagAmong m.size tag → IsRowMetBy x n (row_of m tag) ↔ RowHolds m (scale_of x) n tag
+pub met_row : (m : Judgements) (x : List ℤ) (n : ℤ) (tag : Tag) → suc (length x) ≡ m.size → IsTagAmong m.size tag → IsRowMetBy x n (row_of m tag) ↔ RowHolds m (scale_of x) n tag
 met_row m x n (Lower p q) each among =
     let d = dot-gap_coefs m.size x p q each among in
     let b : pos (range_at m p q).lo *ℤ n ≡ n *ℤ pos (range_at m p q).lo = *ℤ_comm (pos (range_at m p q).lo) n in
@@ -73,7 +73,7 @@ pub scale_falls : (n : ℕ) (x : List ℤ) (p q : ℕ) → suc (length x) ≡ n 
 scale_falls n x p q each in_n nonneg = subst (λ d. pos 0 ≤ℤ d) (dot-gap_coefs n x p q each in_n) (dot_nonneg (gap_coefs n p q) x (gap_coefs_nonneg n p q) nonneg)
 
 -- a gap is the difference of two neighbours
-gap_is : (n : ℕ) (x : List ℤ) (k : ℕ) → suc (length x) ≡ n → k < length x → difference (scale_of x) (n - 1 - k) (n - 1 - k + 1) ≡ get_or x k (pos 0)
+pub gap_is : (n : ℕ) (x : List ℤ) (k : ℕ) → suc (length x) ≡ n → k < length x → difference (scale_of x) (n - 1 - k) (n - 1 - k + 1) ≡ get_or x k (pos 0)
 gap_is n x k each below =
     let p : ℕ = n - 1 - k in
     let low : n - (p + 1) ≡ k = omega arith in

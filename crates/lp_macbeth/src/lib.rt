@@ -14,6 +14,7 @@ mod threshold_tags;
 pub use closed::closed_problem;
 pub use frac128::NoMemory;
 pub use gap_rows::{problem, rows};
+pub use tags::judged_tags;
 pub use threshold::threshold_problem;
 pub use threshold_tags::ThresholdTag;
 

@@ -23,8 +23,8 @@ pub(crate) fn all_tags(alloc: Global, matrix: &Matrix) -> Result<Vec<Tag>, NoMem
     Ok(tags)
 }
 
-/// The tags but those of Order.
-pub(crate) fn judged_tags(alloc: Global, matrix: &Matrix) -> Result<Vec<Tag>, NoMemory>
+/// The tags of the rows of `problem(matrix)`, in row order: all but those of Order.
+pub fn judged_tags(alloc: Global, matrix: &Matrix) -> Result<Vec<Tag>, NoMemory>
     ensures tags { IfOk result (λ tags. tags.items ≡ judged_rows matrix.now) }
     ensures among { IfOk result (λ tags. All (IsTagAmong matrix.now.size) tags.items) }
 {

@@ -1,7 +1,7 @@
 use Rattle.frac128.specs.Problem.{IsSpanCertificate}
 use Rattle.frac128.proofs.ProblemLaws.{span_bounds}
 use Rattle.std.proofs.Common.{subst}
-use Rattle.cert_check.specs.Lines.{Decides, IsVerdict, span_check}
+use Rattle.cert_check.specs.Lines.{Decides, span_check}
 use Rattle.cert_check.proofs.ReachedLemmas.{Decides-from_verdict}
 use Rattle.cert_check.proofs.SpanLemmas.{span-lines}
 use Rattle.cert_check.proofs.check.check_dual.Goals as goal

@@ -1,7 +1,7 @@
 use Rattle.frac128.specs.Problem.{IsFarkasCertificate}
 use Rattle.frac128.proofs.ProblemLaws.{farkas_certificate_refutes}
 use Rattle.std.proofs.Common.{subst}
-use Rattle.cert_check.specs.Lines.{Decides, IsVerdict, farkas_check}
+use Rattle.cert_check.specs.Lines.{Decides, farkas_check}
 use Rattle.cert_check.proofs.ReachedLemmas.{Decides-from_verdict}
 use Rattle.cert_check.proofs.FarkasLemmas.{farkas-lines}
 use Rattle.cert_check.proofs.check.check_farkas.Goals as goal

@@ -1,4 +1,4 @@
-use Rattle.std.proofs.Common.{subst, sym, pos, ◌+◌, ℕ, ℤ}
+use Rattle.std.proofs.Common.{subst, sym, ◌+◌, ℕ}
 use Rattle.std.specs.Prelude.{Ok}
 use Rattle.integers.specs.Fraction.{SameFraction}
 use Rattle.cert_check.specs.Columns.{IsColumnAnswer, IsWideColumn}

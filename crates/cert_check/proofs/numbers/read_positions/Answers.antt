@@ -1,4 +1,4 @@
-use Rattle.std.proofs.Common.{◌≡◌, ◌≤◌, arith}
+use Rattle.std.proofs.Common.{arith}
 use Rattle.cert_check.specs.Reading.{IsPrintedPlace}
 use Rattle.cert_check.proofs.NumberLemmas.{one_position}
 use Rattle.cert_check.proofs.WordLemmas.{Found-some}

@@ -1,6 +1,5 @@
 use Rattle.cert_check.proofs.NumberLemmas.{value_read, printed_otherwise}
-use Rattle.std.proofs.Common.{◌≡◌, ◌∙◌, sym, ap}
-use Rattle.frac128.specs.Text.{frac_text}
+use Rattle.std.proofs.Common.{◌∙◌}
 use Rattle.cert_check.proofs.numbers.read_value.Goals as goal
 
 pub returns-in_default : goal.returns-in_default

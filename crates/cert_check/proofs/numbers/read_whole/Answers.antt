@@ -1,4 +1,4 @@
-use Rattle.std.proofs.Common.{◌≡◌, ◌∙◌, sym, ap, of_z}
+use Rattle.std.proofs.Common.{◌∙◌, sym, ap, of_z}
 use Rattle.std.specs.Int.{w128}
 use Rattle.cert_check.specs.Reading.{IsPrintedValue}
 use Rattle.cert_check.proofs.NumberLemmas.{whole, IsValue-whole, whole_text, whole_den}

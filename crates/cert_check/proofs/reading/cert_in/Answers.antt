@@ -1,4 +1,4 @@
-use Rattle.std.proofs.Common.{subst, sym, ◌∙◌}
+use Rattle.std.proofs.Common.{subst, sym}
 use Rattle.cert_check.specs.Reading.{words, IsPrintedHead, AreEntries}
 use Rattle.cert_check.proofs.HeadTexts.{other_head_line, IsFault-from_entries, IsTextOf-from_entries}
 use Rattle.cert_check.proofs.WordLemmas.{Found-some, Found-none}

@@ -1,4 +1,4 @@
-use Rattle.std.proofs.Common.{◌≡◌, pos, arith}
+use Rattle.std.proofs.Common.{pos, arith}
 use Rattle.std.proofs.lemmas.Int.{ints}
 use Rattle.cert_check.specs.Reading.{IsPrintedWhole}
 use Rattle.cert_check.proofs.NumberLemmas.{one_whole}

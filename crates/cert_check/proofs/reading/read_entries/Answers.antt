@@ -1,6 +1,6 @@
 use Rattle.std.proofs.Common.{◌≡◌, ◌++◌, [], ◌∷◌, subst, sym, arith, rules}
 use Rattle.cert_check.specs.Reading.{words, IsPrintedEntry, HasEntries}
-use Rattle.cert_check.proofs.EntryTexts.{HasEntries-next, no_entry_line, other_entry_line}
+use Rattle.cert_check.proofs.EntryTexts.{HasEntries-next, other_entry_line}
 use Rattle.cert_check.proofs.WordLemmas.{Found-some, Found-none}
 use Rattle.cert_check.proofs.reading.read_entries.Goals as goal
 

@@ -1,4 +1,4 @@
-use Rattle.std.proofs.Common.{◌∙◌, ℕ, ℤ}
+use Rattle.std.proofs.Common.{◌∙◌}
 use Rattle.cert_check.specs.Reading.{IsPairText, IsCrossText}
 use Rattle.cert_check.proofs.EntryTexts.{no_lower, no_zero, no_cross}
 use Rattle.cert_check.proofs.WordLemmas.{Found-none}
