@@ -1,2 +1,10 @@
 pub mod NameLemmas
 pub mod CategoryLemmas
+pub mod RosterLemmas
+pub mod RowLemmas
+pub mod OrderLemmas
+pub mod GroupLemmas
+pub mod KeepLemmas
+pub mod CriterionLemmas
+pub mod GroupGone
+pub mod EditLemmas

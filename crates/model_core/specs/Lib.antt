@@ -1,2 +1,6 @@
 pub mod Names
 pub mod Categories
+pub mod Lists
+pub mod State
+pub mod Finding
+pub mod Edits

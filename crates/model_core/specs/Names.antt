@@ -2,7 +2,7 @@
 use Rattle.std.specs.Prelude.{ℕ, Bool, ◌&&◌, not, ◌==◌, List, length, nat_lt, nat_le}
 use Rattle.std.specs.List.{list_all}
 use Rattle.std.specs.Str.{is_utf8}
-use Rattle.model_core.specs.declared.name.TheConstants.{NAME_BYTES}
+use Rattle.model_core.specs.declared.limits.TheConstants.{NAME_BYTES}
 
 -- neither a control character nor a quotation mark
 abbrev pub is_name_byte : ℕ → Bool

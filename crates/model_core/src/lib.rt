@@ -2,9 +2,24 @@
 #![tactic(auto)]
 
 mod category;
+mod changes;
+mod criterion;
+mod edit;
+mod edits;
+mod group;
+pub mod laws;
+mod limits;
+mod model;
 mod name;
+mod roster;
+mod row;
 mod text;
 
 pub use category::{range_text, read_range};
-pub use name::{NAME_BYTES, Name, NoMemory, valid_name};
+pub use criterion::Criterion;
+pub use edit::EditFault;
+pub use group::Group;
+pub use limits::{CRITERIA, GROUPS, LEAST_REACH, MOST_REACH, NAME_BYTES, NEW_REACH, OPTIONS};
+pub use model::Model;
+pub use name::{Name, NoMemory, valid_name};
 pub use text::{Pointer, Text};

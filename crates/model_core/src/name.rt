@@ -4,12 +4,10 @@ ghost use Rattle.std.specs.List.{list_all};
 ghost use Rattle.std.specs.Str.{is_utf8};
 ghost use Rattle.model_core.specs.Names.{is_name, is_name_byte};
 
+use crate::limits::NAME_BYTES;
 pub use std::alloc::AllocError as NoMemory;
 use std::alloc::Global;
 use std::marker::Model;
-
-/// The most bytes of a name.
-pub const NAME_BYTES: usize = 64;
 
 /// A valid name, seen as its bytes.
 #[derive(Debug, Drop)]

@@ -10,7 +10,7 @@ use Rattle.std.proofs.lemmas.List.{length-map, take_more, take-map, get_or-map}
 use Rattle.std.proofs.lemmas.List.Quantifiers.{position-Some}
 use Rattle.std.proofs.lemmas.Option.{slice_get_within, get_or_from_slice_get, slice_get-get_or}
 use Rattle.std.proofs.lemmas.Map.Keys.{apart_from_distinct, IsDistinct-tail, IsDistinct-push}
-use Rattle.word_table.specs.Words.{find_word, AreApart}
+use Rattle.word_table.specs.Words.{find_word, AreApart, are_apart}
 
 module _ {A B : Type 0} (f : A → B) where
   prefix_len-map : (p : B → Bool) (xs : List A) → prefix_len p (map f xs) ≡ prefix_len (λ x. p (f x)) xs
@@ -103,11 +103,6 @@ pub word_at : {A : Type 0} (f : A → List ℕ) (xs : List A) (i : ℕ) (d : A) 
 word_at f xs i d within =
     slice_get-get_or (map f xs) i (f d) (subst (λ n. i < n) (sym (length-map xs f)) within) ∙ ap Some (get_or-map f xs i d (f d) within)
 
--- whether no two words are equal
-abbrev pub are_apart : List (List ℕ) → Bool
-are_apart [] = true
-are_apart (x ∷ xs) = list_all (λ y. not (bytes_eq x y)) xs && are_apart xs
-
 both : (a b : Bool) → (a && b) ≡ true → (a ≡ true) × (b ≡ true)
 both true b h = (refl, h)
 both false b h = cc
@@ -122,12 +117,22 @@ none_equal x (y ∷ ys) h =
     is_false true e = cc
     is_false false e = refl
 
-apart_by_test : (words : List (List ℕ)) → are_apart words ≡ true → AreApart words
+-- the test and what it tests
+pub apart_by_test : (words : List (List ℕ)) → are_apart words ≡ true → AreApart words
 unfolding IsDistinct
 apart_by_test [] h = tt
 apart_by_test (x ∷ xs) h =
     let parts = both (list_all (λ y. not (bytes_eq x y)) xs) (are_apart xs) h in
     (none_equal x xs parts.0, apart_by_test xs parts.1)
+
+not_equal : (x : List ℕ) (xs : List (List ℕ)) → AllByRecursion (λ y. bytes_eq x y ≡ false) xs → list_all (λ y. not (bytes_eq x y)) xs ≡ true
+not_equal x [] h = refl
+not_equal x (y ∷ ys) h = ap (λ b. not b && list_all (λ z. not (bytes_eq x z)) ys) h.0 ∙ not_equal x ys h.1
+
+pub test_by_apart : (words : List (List ℕ)) → AreApart words → are_apart words ≡ true
+unfolding IsDistinct
+test_by_apart [] h = refl
+test_by_apart (x ∷ xs) h = ap (λ b. b && are_apart xs) (not_equal x xs h.0) ∙ test_by_apart xs h.1
 
 -- a check of words that are apart succeeds
 pub checked : {W : Type 0} (r : Option W) (words : List (List ℕ)) (v : W) → are_apart words ≡ true → SomeIff r (AreApart words) v → IsSome r
