@@ -10,6 +10,7 @@ mod shift;
 mod tag;
 
 pub use matrix::{LIMIT, Matrix, NoMemory};
+pub use pairs::Pairs;
 pub use range::Range;
 pub use shift::Shift;
 pub use tag::{Fit, Tag};

@@ -206,8 +206,8 @@ impl Matrix {
         })
     }
 
-    // The pairs of elements.
-    pub(crate) fn pairs(&self) -> Pairs
+    /// The pairs of elements, in pair order.
+    pub fn pairs(&self) -> Pairs
         ensures { result ≡ pairs self.now.size }
     {
         Pairs::of(self.size)

@@ -8,7 +8,7 @@ use std::marker::Model;
 
 /// The pairs of elements that are left, seen as their list.
 #[derive(Drop)]
-pub(crate) struct Pairs {
+pub struct Pairs {
     size: u8,
     upper: u8,
     lower: u8,
