@@ -31,7 +31,7 @@ span_not_zero top origin span ps s apart is_zero =
     apart (combine2 (λ x y. x ≗ y ⇐ con (pos 1) ✶ (x ⊖ y ≗ con (pos 0)) ∷ []) refl (top.num *ℤ origin.den) (origin.num *ℤ top.den) none)
 
 -- a difference of two numbers over n
-difference_over : (x z n : ℤ) (f g r : Fraction) → IsFraction f → IsFraction g → SameFraction (record { num = x; den = n }) f → SameFraction (record { num = z; den = n }) g
+pub difference_over : (x z n : ℤ) (f g r : Fraction) → IsFraction f → IsFraction g → SameFraction (record { num = x; den = n }) f → SameFraction (record { num = z; den = n }) g
     → SameFraction r (fraction_difference f g) → SameFraction r (record { num = x -ℤ z; den = n })
 difference_over x z n f g r pf pg is_f is_g s =
     cancel_eq (r.num *ℤ n) ((x -ℤ z) *ℤ r.den) (f.den *ℤ g.den) (mul_pos f.den g.den pf pg)
@@ -56,7 +56,7 @@ point_over x n s above factor r pn pa pf is_above is_factor is_r =
 -- ---- the formula
 
 -- a positive denominator, and the number a over b
-abbrev Is : ℤ → ℤ → Fraction → Type 0
+abbrev pub Is : ℤ → ℤ → Fraction → Type 0
 Is a b = IsValued (record { num = a; den = b })
 
 factor_value : (top origin : Fraction) (t z n : ℤ) → IsFraction top → IsFraction origin → SameFraction (record { num = t; den = n }) top → SameFraction (record { num = z; den = n }) origin → ¬ SameFraction top origin
@@ -64,16 +64,16 @@ factor_value : (top origin : Fraction) (t z n : ℤ) → IsFraction top → IsFr
 factor_value top origin t z n pt pz is_t is_z apart =
     IfOk-bind (checked_difference top origin) (λ span. checked_quotient (fraction_of (pos 100)) span) (IsValued (fraction_difference top origin)) (Is (pos 100 *ℤ n) (t -ℤ z)) (checked_difference-value top origin pt pz) (λ span hs.
     IfOk-weaker (checked_quotient (fraction_of (pos 100)) span) (IsValued (fraction_quotient (fraction_of (pos 100)) span)) (Is (pos 100 *ℤ n) (t -ℤ z))
-        (λ r hr. (hr.0, factor_over n (t -ℤ z) span r hs.0 (difference_over t z n top origin span pt pz is_t is_z hs.1) hr.1))
-        (checked_quotient-value (fraction_of (pos 100)) span (IsFraction-whole (pos 100)) (span_not_zero top origin span hs.0 hs.1 apart)))
+    (λ r hr. (hr.0, factor_over n (t -ℤ z) span r hs.0 (difference_over t z n top origin span pt pz is_t is_z hs.1) hr.1))
+    (checked_quotient-value (fraction_of (pos 100)) span (IsFraction-whole (pos 100)) (span_not_zero top origin span hs.0 hs.1 apart)))
 
 point_value : (origin factor f : Fraction) (x z n s : ℤ) → pos 0 <ℤ n → IsFraction origin → Is (pos 100 *ℤ n) s factor → IsFraction f → SameFraction (record { num = x; den = n }) f → SameFraction (record { num = z; den = n }) origin
     → IfOk (checked_point origin factor f) (Is (pos 100 *ℤ (x -ℤ z)) s)
 point_value origin factor f x z n s pn pz hf pf is_x is_z =
     IfOk-bind (checked_difference f origin) (λ above. checked_product above factor) (IsValued (fraction_difference f origin)) (Is (pos 100 *ℤ (x -ℤ z)) s) (checked_difference-value f origin pf pz) (λ above ha.
     IfOk-weaker (checked_product above factor) (IsValued (fraction_product above factor)) (Is (pos 100 *ℤ (x -ℤ z)) s)
-        (λ r hr. (hr.0, point_over (x -ℤ z) n s above factor r pn ha.0 hf.0 (difference_over x z n f origin above pf pz is_x is_z ha.1) hf.1 hr.1))
-        (checked_product-value above factor ha.0 hf.0))
+    (λ r hr. (hr.0, point_over (x -ℤ z) n s above factor r pn ha.0 hf.0 (difference_over x z n f origin above pf pz is_x is_z ha.1) hf.1 hr.1))
+    (checked_product-value above factor ha.0 hf.0))
 
 -- the numbers of an anchored scale, over s
 abbrev stretched : ℤ → List ℤ → List ℤ
@@ -92,8 +92,8 @@ line_value origin factor (f ∷ fs) z n s (x ∷ w) ps pz hf is_z pf h =
     let head = All-head IsFraction f fs pf in
     IfOk-bind (checked_point origin factor f) (λ y. (checked_line origin factor fs) >>= (λ ys. Ok (y ∷ ys))) (Is (pos 100 *ℤ (x -ℤ z)) s) (AreStretched z (x ∷ w) s) (point_value origin factor f x z n s h.den_pos pz hf head h.same.0 is_z) (λ y hy.
     IfOk-bind (checked_line origin factor fs) (λ ys. Ok (y ∷ ys)) (AreStretched z w s) (AreStretched z (x ∷ w) s)
-        (line_value origin factor fs z n s w ps pz hf is_z (All-tail IsFraction f fs pf) (record { den_pos = h.den_pos; same = h.same.1 })) (λ ys hs.
-        (All-cons IsFraction y ys hy.0 hs.0, record { den_pos = ps; same = (sym hy.1, hs.1.same) })))
+    (line_value origin factor fs z n s w ps pz hf is_z (All-tail IsFraction f fs pf) (record { den_pos = h.den_pos; same = h.same.1 })) (λ ys hs.
+    (All-cons IsFraction y ys hy.0 hs.0, record { den_pos = ps; same = (sym hy.1, hs.1.same) })))
 
 -- ---- the anchored scale
 
@@ -129,6 +129,7 @@ anchored_from w v n k good neutral refs pn pk ps e = record {
   where
     z : ℤ
     z = value_at w neutral
+
     s : ℤ
     s = value_at w good -ℤ value_at w neutral
 
@@ -145,6 +146,7 @@ anchored_is fs good neutral pf refs falls apart = for_all (checked_anchor fs goo
   where
     top : Fraction
     top = fraction_at fs good
+
     origin : Fraction
     origin = fraction_at fs neutral
 
@@ -163,10 +165,10 @@ anchored_is fs good neutral pf refs falls apart = for_all (checked_anchor fs goo
         let is_z : SameFraction (record { num = z; den = n }) origin = IsWriting-at fs w n (neutral - 1) (pos 0) (fraction_of (pos 0)) (omega arith) h in
         let ps = above top origin t z n h.den_pos p_top p_zero is_t is_z (falls good neutral refs) apart in
         IfOk-bind (checked_factor top origin) (λ factor. checked_line origin factor fs) (Is (pos 100 *ℤ n) (t -ℤ z)) (λ vs. (v : List ℤ) (k : ℤ) → IsWriting vs v k → IsAnchoredScale w n good neutral v k)
-            (factor_value top origin t z n p_top p_zero is_t is_z apart) (λ factor hf.
+        (factor_value top origin t z n p_top p_zero is_t is_z apart) (λ factor hf.
         IfOk-weaker (checked_line origin factor fs) (AreStretched z w (t -ℤ z)) (λ vs. (v : List ℤ) (k : ℤ) → IsWriting vs v k → IsAnchoredScale w n good neutral v k)
-            (λ vs hs v k hv. anchored_from w v n k good neutral (rw e refs) h.den_pos hv.den_pos ps (IsWriting-cross vs (stretched z w) (t -ℤ z) v k hs.0 hs.1 hv))
-            (line_value origin factor fs z n (t -ℤ z) w ps p_zero hf is_z pf h))
+        (λ vs hs v k hv. anchored_from w v n k good neutral (rw e refs) h.den_pos hv.den_pos ps (IsWriting-cross vs (stretched z w) (t -ℤ z) v k hs.0 hs.1 hv))
+        (line_value origin factor fs z n (t -ℤ z) w ps p_zero hf is_z pf h))
 
 -- there are as many values
 pub anchored_length : (fs : List Fraction) (good neutral : ℕ) → IfOk (checked_anchor fs good neutral) (λ vs. length vs ≡ length fs)

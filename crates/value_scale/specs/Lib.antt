@@ -1,1 +1,3 @@
 pub mod Anchor
+pub mod Slack
+pub mod Narrowing

@@ -54,7 +54,12 @@ impl<T: Drop> From<AllocFailed<T>> for AnchorFault {
 /// Elements count from 1, and no element has a greater value than one listed above it. With `s` the value of `good` less that of
 /// `neutral`, each value less that of `neutral` is multiplied by `100 / s`, from the first on; it refuses where one of these
 /// steps does.
-pub fn anchor(alloc: Global, values: &[Frac], good: usize, neutral: usize) -> Result<Vec<Frac>, AnchorFault>
+pub fn anchor(
+    alloc: Global,
+    values: &[Frac],
+    good: usize,
+    neutral: usize,
+) -> Result<Vec<Frac>, AnchorFault>
     requires references { AreReferences (length values.now) good neutral }
     requires falling { NeverRise values.now }
     ensures flat { (result ≡ Err AnchorFault.Flat) ↔ IsFlat values.now good neutral }
@@ -70,7 +75,12 @@ pub fn anchor(alloc: Global, values: &[Frac], good: usize, neutral: usize) -> Re
 }
 
 // The same where the references have two values.
-fn stretched(alloc: Global, values: &[Frac], good: usize, neutral: usize) -> Result<Vec<Frac>, AnchorFault>
+fn stretched(
+    alloc: Global,
+    values: &[Frac],
+    good: usize,
+    neutral: usize,
+) -> Result<Vec<Frac>, AnchorFault>
     requires references { AreReferences (length values.now) good neutral }
     requires falling { NeverRise values.now }
     requires apart { ¬ IsFlat values.now good neutral }
@@ -84,7 +94,12 @@ fn stretched(alloc: Global, values: &[Frac], good: usize, neutral: usize) -> Res
 }
 
 // The same by its formula alone.
-fn worked(alloc: Global, values: &[Frac], good: usize, neutral: usize) -> Result<Vec<Frac>, AnchorFault>
+fn worked(
+    alloc: Global,
+    values: &[Frac],
+    good: usize,
+    neutral: usize,
+) -> Result<Vec<Frac>, AnchorFault>
     requires references { AreReferences (length values.now) good neutral }
     requires apart { ¬ IsFlat values.now good neutral }
     ensures { Gives (λ v. v.items) (checked_anchor values.now good neutral) result }
@@ -104,7 +119,12 @@ fn factor(top: &Frac, zero: &Frac) -> Result<Frac, TooWide>
 }
 
 // Each value less the one at 0, times the factor.
-fn on_line(alloc: Global, values: &[Frac], zero: &Frac, factor: &Frac) -> Result<Vec<Frac>, AnchorFault>
+fn on_line(
+    alloc: Global,
+    values: &[Frac],
+    zero: &Frac,
+    factor: &Frac,
+) -> Result<Vec<Frac>, AnchorFault>
     ensures { Gives (λ v. v.items) (checked_line zero.now factor.now values.now) result }
 {
     let mut anchored = Vec::new(alloc);

@@ -4,7 +4,12 @@ ghost use Rattle.std.specs.Prelude.{◌≡◌, ℕ, List, ℤ, pos, length, ◌<
 ghost use Rattle.integers.specs.Fraction.{over, SameFractions};
 ghost use Rattle.judgement_matrix.specs.Matrix.{IsPair};
 ghost use Rattle.judgement_matrix.specs.Scale.{value_at};
-ghost use Rattle.value_scale.specs.Anchor.{IsAnchoredScale, AreReferences};
+ghost use Rattle.value_scale.specs.Anchor.{IsAnchoredScale, AreReferences, NeverRise};
+ghost use Rattle.value_scale.specs.Slack.{MeetValues};
+
+use frac128::Frac;
+use frac128::laws::are_fractions;
+use judgement_matrix::Matrix;
 
 /// States that a scale has at most one anchored scale for two references. It does nothing.
 pub fn one_anchored_scale()
@@ -21,3 +26,12 @@ pub fn anchored_values_fall()
         → IsAnchoredScale w n good neutral v k → IsPair (length w) p q
         → value_at w q ≤ℤ value_at w p → value_at v q ≤ℤ value_at v p }
 {}
+
+/// States that the values of a scale that meets a matrix never rise. It only reads them, since what a type keeps is told where
+/// it is read.
+pub fn met_values_never_rise(matrix: &Matrix, values: &[Frac])
+    requires { MeetValues matrix.now values.now }
+    ensures { NeverRise values.now }
+{
+    are_fractions(values);
+}

@@ -3,6 +3,8 @@
 
 mod anchored_scale;
 pub mod laws;
+mod slacks;
 
 pub use anchored_scale::{AnchorFault, anchor};
 pub use frac128::NoMemory;
+pub use slacks::{Interval, slack};
