@@ -1,6 +1,8 @@
 pub mod AnchorLaws
 pub mod AnchorLemmas
+pub mod BasicLemmas
 pub mod EachLemmas
+pub mod GapLemmas
 pub mod IntervalLemmas
 pub mod MetLemmas
 pub mod NarrowingLemmas

@@ -1,3 +1,6 @@
 pub mod Anchor
-pub mod Slack
+pub mod Basic
+pub mod Fault
+pub mod GapSums
 pub mod Narrowing
+pub mod Slack
