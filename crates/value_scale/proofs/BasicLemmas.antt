@@ -62,8 +62,8 @@ pub cost_is_span : (m : Judgements) (z : List ℤ) → 2 ≤ m.size → length z
 cost_is_span m z s l =
     let xs = take (m.size - 1) z in
     dot-between 0 (m.size - 1) 5 z
-        ∙ sym (ap int_sum (take_all (suc (length xs) - 1) xs (omega arith)))
-        ∙ sym (value_at-scale_of xs 1 (omega arith) (omega arith))
+    ∙ sym (ap int_sum (take_all (suc (length xs) - 1) xs (omega arith)))
+    ∙ sym (value_at-scale_of xs 1 (omega arith) (omega arith))
 
 -- what was read from the least point of the threshold problem is the least scale, and its span is the cost
 pub record IsRead (m : Judgements) (values : List Fraction) (cost : Fraction) : Type 0 where
@@ -79,7 +79,7 @@ first_is m z n cost values s pc least cost_is h =
     let first : Fraction = record { num = get_or w 0 (pos 0); den = n } in
     let is_cost : SameFraction first cost = subst (λ c. SameFraction (record { num = c; den = n }) cost) (cost_is_span m z s least.feasible.one_each) cost_is in
     SameFraction-trans cost first (span values) pc h.1.den_pos (All-get_or IsFraction values 0 (fraction_of (pos 0)) some h.0)
-        (SameFraction-sym first cost is_cost) (IsWriting-at values w n 0 (pos 0) (fraction_of (pos 0)) some h.1)
+    (SameFraction-sym first cost is_cost) (IsWriting-at values w n 0 (pos 0) (fraction_of (pos 0)) some h.1)
 
 -- the values of the least point's gaps are the least scale, and the first of them is the cost
 pub read : (m : Judgements)
@@ -93,11 +93,11 @@ read m alike compare scales s point z n cost pp pc same least cost_is =
     let written : IsWriting point z n = record { den_pos = least.feasible.den_pos; same = same } in
     let gaps = take (m.size - 1) point in
     IfOk-weaker (checked_values gaps) (IsWritten (scale_of (take (m.size - 1) z)) n) (λ values. IsRead m values cost)
-        (λ values h. record {
-          least = least_in_each m alike compare values (scale_of (take (m.size - 1) z)) n h.0 h.1 (scales z n least);
-          span_is = first_is m z n cost values s pc least cost_is h;
-        })
-        (values_written gaps (take (m.size - 1) z) n (All-take IsFraction (m.size - 1) point pp) (IsWriting-take (m.size - 1) point z n written))
+    (λ values h. record {
+      least = least_in_each m alike compare values (scale_of (take (m.size - 1) z)) n h.0 h.1 (scales z n least);
+      span_is = first_is m z n cost values s pc least cost_is h;
+    })
+    (values_written gaps (take (m.size - 1) z) n (All-take IsFraction (m.size - 1) point pp) (IsWriting-take (m.size - 1) point z n written))
 
 -- ---- what the functions of the code cite
 
@@ -128,12 +128,14 @@ pub scale_with_proof : (m : Judgements)
     → IsLeastWithProof m values on × AreGapSums m (Ok values)
 scale_with_proof m alike compare scales s point value values on h pp pv ps reduced worked proof =
     let found = subst (λ r. IfOk r (λ values. IsRead m values value)) worked
-        (read m alike compare scales s point h.is.x h.is.n value pp pv h.is.same h.is.least h.cost) in
-    (record {
-      least = found.least;
-      reduced = reduced;
-      proof = certifies_span m on value values pv (first_fraction values ps) found.span_is proof;
-    }, record { point = point; least = h.is; reduced = h.point_reduced; are = worked })
+    (read m alike compare scales s point h.is.x h.is.n value pp pv h.is.same h.is.least h.cost) in (
+      record {
+        least = found.least;
+        reduced = reduced;
+        proof = certifies_span m on value values pv (first_fraction values ps) found.span_is proof;
+      },
+      record { point = point; least = h.is; reduced = h.point_reduced; are = worked },
+    )
   where
     first_fraction : (fs : List Fraction) → AreFractions fs → IsFraction (span fs)
     first_fraction [] h = lt_z_yes tt

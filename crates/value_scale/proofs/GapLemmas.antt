@@ -45,8 +45,8 @@ heights_written a (gap ∷ gaps) z (x ∷ xs) n pa pg za w =
     IfOk-bind (checked_sum a gap) (λ height. (checked_heights height gaps) >>= (λ above. Ok (height ∷ above))) (IsValued (fraction_sum a gap)) (IsWritten (running_sums z (x ∷ xs)) n) (checked_sum-value a gap pa first) (λ height h.
     let same = stacked a gap height z x n pa first h.0 w.den_pos za w.same.0 h.1 in
     IfOk-bind (checked_heights height gaps) (λ above. Ok (height ∷ above)) (IsWritten (running_sums (z +ℤ x) xs) n) (IsWritten (running_sums z (x ∷ xs)) n)
-        (heights_written height gaps (z +ℤ x) xs n h.0 (All-tail IsFraction gap gaps pg) same (record { den_pos = w.den_pos; same = w.same.1 }))
-        (λ above k. (All-cons IsFraction height above h.0 k.0, record { den_pos = w.den_pos; same = (same, k.1.same) })))
+    (heights_written height gaps (z +ℤ x) xs n h.0 (All-tail IsFraction gap gaps pg) same (record { den_pos = w.den_pos; same = w.same.1 }))
+    (λ above k. (All-cons IsFraction height above h.0 k.0, record { den_pos = w.den_pos; same = (same, k.1.same) })))
 
 -- the running sums behind a number are its heights
 heights-running : (z : ℤ) (x : List ℤ) → heights z x ≡ z ∷ running_sums z x
@@ -61,8 +61,10 @@ reverse_written (f ∷ fs) [] n h = absurd h.1.same
 reverse_written (f ∷ fs) (x ∷ w) n h =
     let rest = reverse_written fs w n (All-tail IsFraction f fs h.0, record { den_pos = h.1.den_pos; same = h.1.same.1 }) in
     let first = All-cons IsFraction f [] (All-head IsFraction f fs h.0) (All-nil IsFraction) in
-    rw (reverse-append (f ∷ []) fs, reverse-append (x ∷ []) w) (All-append IsFraction (reverse fs) (f ∷ []) rest.0 first,
-        IsWriting-append (reverse fs) (f ∷ []) (reverse w) (x ∷ []) n rest.1 (record { den_pos = h.1.den_pos; same = (h.1.same.0, tt) }))
+    rw (reverse-append (f ∷ []) fs, reverse-append (x ∷ []) w) (
+      All-append IsFraction (reverse fs) (f ∷ []) rest.0 first,
+      IsWriting-append (reverse fs) (f ∷ []) (reverse w) (x ∷ []) n rest.1 (record { den_pos = h.1.den_pos; same = (h.1.same.0, tt) }),
+    )
 
 -- all elements from the bottom one upwards
 column_written : (gaps : List Fraction) (x : List ℤ) (n : ℤ) → AreFractions gaps → IsWriting gaps x n → IfOk (checked_column gaps) (IsWritten (heights (pos 0) x) n)
@@ -71,12 +73,12 @@ column_written gaps x n pg w =
     let zero : Fraction = fraction_of (pos 0) in
     let same : SameFraction (record { num = pos 0; den = n }) zero = zero_over n in
     IfOk-bind (checked_heights zero gaps) (λ above. Ok (zero ∷ above)) (IsWritten (running_sums (pos 0) x) n) (IsWritten (heights (pos 0) x) n)
-        (heights_written zero gaps (pos 0) x n (IsFraction-whole (pos 0)) pg same w)
-        (λ above h. rw (heights-running (pos 0) x) (All-cons IsFraction zero above (IsFraction-whole (pos 0)) h.0, record { den_pos = w.den_pos; same = (same, h.1.same) }))
+    (heights_written zero gaps (pos 0) x n (IsFraction-whole (pos 0)) pg same w)
+    (λ above h. rw (heights-running (pos 0) x) (All-cons IsFraction zero above (IsFraction-whole (pos 0)) h.0, record { den_pos = w.den_pos; same = (same, h.1.same) }))
 
 -- the values are the scale of the gaps
 pub values_written : (gaps : List Fraction) (x : List ℤ) (n : ℤ) → AreFractions gaps → IsWriting gaps x n → IfOk (checked_values gaps) (IsWritten (scale_of x) n)
 unfolding checked_values
 values_written gaps x n pg w =
     IfOk-bind (checked_column gaps) (λ column. Ok (reverse column)) (IsWritten (heights (pos 0) x) n) (IsWritten (scale_of x) n) (column_written gaps x n pg w)
-        (λ column h. reverse_written column (heights (pos 0) x) n h)
+    (λ column h. reverse_written column (heights (pos 0) x) n h)

@@ -16,7 +16,7 @@ returns c =
     let worked = ap (λ n. checked_values (take (n - 1) c.args.point.now)) (sym c.size.ensures.value) ∙ c.in_ok-values.ensures ∙ ap Ok (sym c.make.ensures) in
     let held = c.deref.ensures.value ∙ sym c.make.ensures in
     let both = scale_with_proof c.args.matrix.now c.writings_meet_alike.ensures c.writings_compare_alike.ensures c.thresholds_are_enough.ensures.scale c.requires.size
-        c.args.point.now c.args.value.now c.make.result c.args.cert c.requires.least c.are_fractions.ensures.positive c.den.ensures.positive
-        (subst AreFractions held c.are_fractions-2.ensures.positive) (subst (All IsReduced) held c.are_fractions-2.ensures.lowest) worked
-        c.requires.proof in
+    c.args.point.now c.args.value.now c.make.result c.args.cert c.requires.least c.are_fractions.ensures.positive c.den.ensures.positive
+    (subst AreFractions held c.are_fractions-2.ensures.positive) (subst (All IsReduced) held c.are_fractions-2.ensures.lowest) worked
+    c.requires.proof in
     (both.0, (refl, both.1))
