@@ -22,7 +22,8 @@ anchored_each w n good neutral v k h =
     sym (length-scale (h.line.base *ℤ n) v) ∙ ap length h.takes ∙ length-scale k (map f w) ∙ length-map w f
 
 -- the line at a place
-line_at : (c k s t : ℤ) (w v : List ℤ) → scale c v ≡ scale k (map (λ x. s *ℤ x +ℤ t) w) → (i : ℕ) → i < length w → c *ℤ get_or v i (pos 0) ≡ k *ℤ (s *ℤ get_or w i (pos 0) +ℤ t)
+line_at : (c k s t : ℤ) (w v : List ℤ) → scale c v ≡ scale k (map (λ x. s *ℤ x +ℤ t) w) → (i : ℕ) → i < length w → c *ℤ get_or v i (pos 0)
+    ≡ k *ℤ (s *ℤ get_or w i (pos 0) +ℤ t)
 line_at c k s t [] v e i l = absurd (omega arith)
 line_at c k s t (x ∷ w) [] e i l = absurd (cons≢nil (sym e))
 line_at c k s t (x ∷ w) (y ∷ v) e zero l = head-eq_of_cons-eq e
@@ -34,7 +35,8 @@ taken : (w : List ℤ) (n : ℤ) (good neutral : ℕ) (v : List ℤ) (k : ℤ) (
 taken w n good neutral v k h p low within = line_at (h.line.base *ℤ n) k h.line.slope (h.line.shift *ℤ n) w v h.takes (p - 1) (omega arith)
 
 -- values that don't rise are sent to values that don't
-pub anchored_fall : (w : List ℤ) (n : ℤ) (good neutral : ℕ) (v : List ℤ) (k : ℤ) (p q : ℕ) → pos 0 <ℤ n → IsAnchoredScale w n good neutral v k → IsPair (length w) p q
+pub anchored_fall : (w : List ℤ) (n : ℤ) (good neutral : ℕ) (v : List ℤ) (k : ℤ) (p q : ℕ) → pos 0 <ℤ n → IsAnchoredScale w n good neutral v k
+    → IsPair (length w) p q
     → value_at w q ≤ℤ value_at w p → value_at v q ≤ℤ value_at v p
 anchored_fall w n good neutral v k p q pn h pair below =
     let line = h.line in
@@ -44,7 +46,8 @@ anchored_fall w n good neutral v k p q pn h pair below =
     let at_q = taken w n good neutral v k h q (omega arith) (omega arith) in
     let factor : pos 0 ≤ℤ (k *ℤ line.slope) = le_of_lt (pos 0) (k *ℤ line.slope) (mul_pos k line.slope h.den_pos line.rises) in
     cancel_le (value_at v q) (value_at v p) c pc
-    (combine8 (λ a b x y c k s t. y ⊗ c ≼ x ⊗ c ⇐ (k ⊗ s) ✶ (b ≼ a) ∷ con (pos 1) ✶ (c ⊗ y ≗ k ⊗ (s ⊗ b ⊕ t)) ∷ neg (con (pos 1)) ✶ (c ⊗ x ≗ k ⊗ (s ⊗ a ⊕ t)) ∷ []) refl
+    (combine8 (λ a b x y c k s t. y ⊗ c ≼ x ⊗ c ⇐ (k ⊗ s) ✶ (b ≼ a) ∷ con (pos 1) ✶ (c ⊗ y ≗ k ⊗ (s ⊗ b ⊕ t)) ∷ neg (con (pos 1)) ✶ (c ⊗ x ≗ k ⊗ (s ⊗ a ⊕ t))
+    ∷ []) refl
     (value_at w p) (value_at w q) (value_at v p) (value_at v q) c k line.slope (line.shift *ℤ n) factor below at_q at_p)
 
 -- two references of an anchored scale, and how steep its line is
@@ -56,11 +59,13 @@ steep w n good neutral v k refs h =
     let at_good = taken w n good neutral v k h good (omega arith) (omega arith) in
     let at_neutral = taken w n good neutral v k h neutral (omega arith) (omega arith) in
     cancel_eq (line.slope *ℤ (value_at w good -ℤ value_at w neutral)) (pos 100 *ℤ c) k h.den_pos
-    (combine8 (λ a b x y c k s t. s ⊗ (a ⊖ b) ⊗ k ≗ con (pos 100) ⊗ c ⊗ k ⇐ neg (con (pos 1)) ✶ (c ⊗ x ≗ k ⊗ (s ⊗ a ⊕ t)) ∷ con (pos 1) ✶ (c ⊗ y ≗ k ⊗ (s ⊗ b ⊕ t)) ∷ c ✶ (x ≗ con (pos 100) ⊗ k) ∷ neg c ✶ (y ≗ con (pos 0)) ∷ []) refl
+    (combine8 (λ a b x y c k s t. s ⊗ (a ⊖ b) ⊗ k ≗ con (pos 100) ⊗ c ⊗ k ⇐ neg (con (pos 1)) ✶ (c ⊗ x ≗ k ⊗ (s ⊗ a ⊕ t))
+    ∷ con (pos 1) ✶ (c ⊗ y ≗ k ⊗ (s ⊗ b ⊕ t)) ∷ c ✶ (x ≗ con (pos 100) ⊗ k) ∷ neg c ✶ (y ≗ con (pos 0)) ∷ []) refl
     (value_at w good) (value_at w neutral) (value_at v good) (value_at v neutral) c k line.slope (line.shift *ℤ n) at_good at_neutral h.good_is h.neutral_is)
 
 -- the references differ
-apart : (w : List ℤ) (n : ℤ) (good neutral : ℕ) (v : List ℤ) (k : ℤ) → pos 0 <ℤ n → AreReferences (length w) good neutral → IsAnchoredScale w n good neutral v k → pos 0 <ℤ (value_at w good -ℤ value_at w neutral)
+apart : (w : List ℤ) (n : ℤ) (good neutral : ℕ) (v : List ℤ) (k : ℤ) → pos 0 <ℤ n → AreReferences (length w) good neutral
+    → IsAnchoredScale w n good neutral v k → pos 0 <ℤ (value_at w good -ℤ value_at w neutral)
 apart w n good neutral v k pn refs h =
     let d = value_at w good -ℤ value_at w neutral in
     let c = h.line.base *ℤ n in
@@ -68,7 +73,8 @@ apart w n good neutral v k pn refs h =
     pos_of_mul d h.line.slope h.line.rises (subst (λ z. pos 0 <ℤ z) (sym (steep w n good neutral v k refs h) ∙ *ℤ_comm h.line.slope d) big)
 
 -- the value of each element is 100 times its part of the way from neutral to good
-part : (w : List ℤ) (n : ℤ) (good neutral : ℕ) (v : List ℤ) (k : ℤ) → pos 0 <ℤ n → AreReferences (length w) good neutral → IsAnchoredScale w n good neutral v k → (p : ℕ) → 1 ≤ p → p ≤ length w
+part : (w : List ℤ) (n : ℤ) (good neutral : ℕ) (v : List ℤ) (k : ℤ) → pos 0 <ℤ n → AreReferences (length w) good neutral
+    → IsAnchoredScale w n good neutral v k → (p : ℕ) → 1 ≤ p → p ≤ length w
     → value_at v p *ℤ (value_at w good -ℤ value_at w neutral) ≡ pos 100 *ℤ k *ℤ (value_at w p -ℤ value_at w neutral)
 part w n good neutral v k pn refs h p low within =
     let line = h.line in
@@ -77,14 +83,17 @@ part w n good neutral v k pn refs h p low within =
     let at_p = taken w n good neutral v k h p low within in
     let at_neutral = taken w n good neutral v k h neutral (omega arith) (omega arith) in
     cancel_eq (value_at v p *ℤ d) (pos 100 *ℤ k *ℤ (value_at w p -ℤ value_at w neutral)) c (mul_pos line.base n line.base_pos pn)
-    (combine9 (λ a b x y c k s t d. x ⊗ d ⊗ c ≗ con (pos 100) ⊗ k ⊗ (a ⊖ b) ⊗ c ⇐ d ✶ (c ⊗ x ≗ k ⊗ (s ⊗ a ⊕ t)) ∷ neg d ✶ (c ⊗ y ≗ k ⊗ (s ⊗ b ⊕ t)) ∷ (c ⊗ d) ✶ (y ≗ con (pos 0)) ∷ (k ⊗ (a ⊖ b)) ✶ (s ⊗ d ≗ con (pos 100) ⊗ c) ∷ []) refl
-    (value_at w p) (value_at w neutral) (value_at v p) (value_at v neutral) c k line.slope (line.shift *ℤ n) d at_p at_neutral h.neutral_is (steep w n good neutral v k refs h))
+    (combine9 (λ a b x y c k s t d. x ⊗ d ⊗ c ≗ con (pos 100) ⊗ k ⊗ (a ⊖ b) ⊗ c ⇐ d ✶ (c ⊗ x ≗ k ⊗ (s ⊗ a ⊕ t)) ∷ neg d ✶ (c ⊗ y ≗ k ⊗ (s ⊗ b ⊕ t))
+    ∷ (c ⊗ d) ✶ (y ≗ con (pos 0)) ∷ (k ⊗ (a ⊖ b)) ✶ (s ⊗ d ≗ con (pos 100) ⊗ c) ∷ []) refl
+    (value_at w p) (value_at w neutral) (value_at v p) (value_at v neutral) c k line.slope (line.shift *ℤ n) d at_p at_neutral h.neutral_is
+    (steep w n good neutral v k refs h))
 
 -- there is one anchored scale
 pub anchored_one : (w : List ℤ) (n : ℤ) (good neutral : ℕ) (v x : List ℤ) (k l : ℤ) → pos 0 <ℤ n → AreReferences (length w) good neutral
     → IsAnchoredScale w n good neutral v k → IsAnchoredScale w n good neutral x l → SameFractions (over v k) (over x l)
 anchored_one w n good neutral v x k l pn refs h g = (SameFractions-over v x k l).1
-    (ext_get_or (pos 0) (scale l v) (scale k x) (length-scale l v ∙ anchored_each w n good neutral v k h ∙ sym (anchored_each w n good neutral x l g) ∙ sym (length-scale k x)) (λ i under.
+    (ext_get_or (pos 0) (scale l v) (scale k x) (length-scale l v ∙ anchored_each w n good neutral v k h ∙ sym (anchored_each w n good neutral x l g)
+    ∙ sym (length-scale k x)) (λ i under.
     get_or-scale l v i ∙ same i (omega (arith, length-scale l v, anchored_each w n good neutral v k h)) ∙ sym (get_or-scale k x i)))
   where
     d : ℤ

@@ -4,7 +4,8 @@ use Rattle.std.proofs.Common.{◌≡◌, ℕ, suc, List, [], ◌∷◌, length, 
 use Rattle.frac128.specs.Checked.{◌>>=◌}
 use Rattle.value_scale.specs.Anchor.{checked_each}
 
-one_more : {B E : Type 0} (first : Result B E) (behind : Result (List B) E) (n : ℕ) → IfOk behind (λ ys. length ys ≡ n) → IfOk (first >>= (λ y. behind >>= (λ ys. Ok (y ∷ ys)))) (λ ys. length ys ≡ suc n)
+one_more : {B E : Type 0} (first : Result B E) (behind : Result (List B) E) (n : ℕ) → IfOk behind (λ ys. length ys ≡ n)
+    → IfOk (first >>= (λ y. behind >>= (λ ys. Ok (y ∷ ys)))) (λ ys. length ys ≡ suc n)
 one_more (Ok y) (Ok ys) n h = ap suc h
 one_more (Ok y) (Err e) n h = tt
 one_more (Err e) behind n h = tt

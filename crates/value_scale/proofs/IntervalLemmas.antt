@@ -56,7 +56,8 @@ same_members i P Q s h = record {
 }
 
 -- from an end on
-members_from : (i : Interval) (e : Fraction) (P Q : Fraction → Type 0) → Holds i P → IsFraction e → ((t : Fraction) → IsFraction t → Q t ↔ FractionAtMost e t) → Holds (from_end e i) (λ t. P t × Q t)
+members_from : (i : Interval) (e : Fraction) (P Q : Fraction → Type 0) → Holds i P → IsFraction e → ((t : Fraction) → IsFraction t → Q t ↔ FractionAtMost e t)
+    → Holds (from_end e i) (λ t. P t × Q t)
 members_from i e P Q h pe q =
     let R : Fraction → Type 0 = λ t. P t × Q t in
     let G : Bool → Type 0 = λ b. is_below i.low e ≡ b → Holds (record { low = if b then e else i.low; high = i.high }) R in
@@ -66,7 +67,11 @@ members_from i e P Q h pe q =
           record {
             low_pos = pe;
             high_pos = h.high_pos;
-            exactly = λ t p. (λ k. ((q t p).0 k.1, ((h.exactly t p).0 k.0).1), λ k. ((h.exactly t p).1 (FractionAtMost-trans i.low e t h.low_pos pe p below k.0, k.1), (q t p).1 k.0));
+            exactly = λ t p. (
+              λ k. ((q t p).0 k.1, ((h.exactly t p).0 k.0).1),
+              λ k.
+                  ((h.exactly t p).1 (FractionAtMost-trans i.low e t h.low_pos pe p below k.0, k.1), (q t p).1 k.0),
+            );
           }
       | false ↦ λ b.
           let above : FractionAtMost e i.low = lt_no (i.low.num *ℤ e.den) (e.num *ℤ i.low.den) b in
@@ -79,10 +84,12 @@ members_from i e P Q h pe q =
     by_test refl
 
 -- up to the less of two ends
-up_to_both : (e : Fraction) (high : Option Fraction) → IsFraction e → IsEndOrNone high → IsFraction (lesser e high) × ((t : Fraction) → IsFraction t → (FractionAtMost t e × IsUpTo t high) ↔ FractionAtMost t (lesser e high))
+up_to_both : (e : Fraction) (high : Option Fraction) → IsFraction e → IsEndOrNone high
+    → IsFraction (lesser e high) × ((t : Fraction) → IsFraction t → (FractionAtMost t e × IsUpTo t high) ↔ FractionAtMost t (lesser e high))
 up_to_both e None pe ph = (pe, λ t p. (λ k. k.0, λ k. (k, tt)))
 up_to_both e (Some high) pe ph =
-    let G : Bool → Type 0 = λ b. is_below e high ≡ b → IsFraction (if b then e else high) × ((t : Fraction) → IsFraction t → (FractionAtMost t e × FractionAtMost t high) ↔ FractionAtMost t (if b then e else high)) in
+    let G : Bool → Type 0 = λ b. is_below e high ≡ b → IsFraction (if b then e else high) ×
+    ((t : Fraction) → IsFraction t → (FractionAtMost t e × FractionAtMost t high) ↔ FractionAtMost t (if b then e else high)) in
     let by_test : G (is_below e high) = elim (is_below e high) as G [
       | true ↦ λ b.
           let below : FractionAtMost e high = le_of_lt (e.num *ℤ high.den) (high.num *ℤ e.den) (lt_yes (e.num *ℤ high.den) (high.num *ℤ e.den) b) in
@@ -93,7 +100,8 @@ up_to_both e (Some high) pe ph =
     ] in
     by_test refl
 
-members_up_to : (i : Interval) (e : Fraction) (P Q : Fraction → Type 0) → Holds i P → IsFraction e → ((t : Fraction) → IsFraction t → Q t ↔ FractionAtMost t e) → Holds (up_to_end e i) (λ t. P t × Q t)
+members_up_to : (i : Interval) (e : Fraction) (P Q : Fraction → Type 0) → Holds i P → IsFraction e
+    → ((t : Fraction) → IsFraction t → Q t ↔ FractionAtMost t e) → Holds (up_to_end e i) (λ t. P t × Q t)
 members_up_to i e P Q h pe q =
     let both = up_to_both e i.high pe h.high_pos in
     record {
@@ -107,7 +115,8 @@ members_up_to i e P Q h pe q =
 
 -- ---- one row
 
-module _ (m : Judgements) (fs : List Fraction) (w : List ℤ) (n : ℤ) (x : ℕ) (are : AreFractions fs) (same : SameFractions (over w n) fs) (pn : pos 0 <ℤ n) (low : 1 ≤ x) (within : x ≤ length w) where
+module _ (m : Judgements) (fs : List Fraction) (w : List ℤ) (n : ℤ) (x : ℕ) (are : AreFractions fs) (same : SameFractions (over w n) fs) (pn : pos 0 <ℤ n)
+    (low : 1 ≤ x) (within : x ≤ length w) where
   -- the row holds with t in place of the value of x
   abbrev pub With : Tag → Fraction → Type 0
   With tag t = RowHolds m (replaced w n x t) (n *ℤ t.den) tag
@@ -117,9 +126,11 @@ module _ (m : Judgements) (fs : List Fraction) (w : List ℤ) (n : ℤ) (x : ℕ
   rest = set w (x - 1) (pos 0)
 
   -- the same in one number
-  with_by_side : (tag : Tag) → IsTagAmong m.size tag → (t : Fraction) → With tag t ↔ (n *ℤ t.den *ℤ bound m tag) ≤ℤ (t.den *ℤ side rest tag +ℤ coefficient x tag *ℤ (t.num *ℤ n))
+  with_by_side : (tag : Tag) → IsTagAmong m.size tag → (t : Fraction) → With tag t
+      ↔ (n *ℤ t.den *ℤ bound m tag) ≤ℤ (t.den *ℤ side rest tag +ℤ coefficient x tag *ℤ (t.num *ℤ n))
   with_by_side tag among t =
-      subst (λ z. With tag t ↔ (n *ℤ t.den *ℤ bound m tag) ≤ℤ z) (side_replaced w n x t m.size tag low within among) (row_by_side m (replaced w n x t) (n *ℤ t.den) tag)
+      subst (λ z. With tag t ↔ (n *ℤ t.den *ℤ bound m tag) ≤ℤ z) (side_replaced w n x t m.size tag low within among)
+      (row_by_side m (replaced w n x t) (n *ℤ t.den) tag)
 
   -- a row that holds, without the value of x in it
   with_any : (tag : Tag) → IsTagAmong m.size tag → RowHolds m w n tag → coefficient x tag ≡ pos 0 → (t : Fraction) → IsFraction t → With tag t
@@ -128,19 +139,22 @@ module _ (m : Judgements) (fs : List Fraction) (w : List ℤ) (n : ℤ) (x : ℕ
       (subst (λ z. (n *ℤ bound m tag) ≤ℤ z) (side_own w x m.size tag low within among) ((row_by_side m w n tag).0 h)))
 
   -- by an end
-  with_from : (tag : Tag) (e : Fraction) → IsTagAmong m.size tag → pos 0 <ℤ coefficient x tag → IsEnd (coefficient x tag) (n *ℤ bound m tag -ℤ side rest tag) n e → (t : Fraction) → With tag t ↔ FractionAtMost e t
+  with_from : (tag : Tag) (e : Fraction) → IsTagAmong m.size tag → pos 0 <ℤ coefficient x tag
+      → IsEnd (coefficient x tag) (n *ℤ bound m tag -ℤ side rest tag) n e → (t : Fraction) → With tag t ↔ FractionAtMost e t
   with_from tag e among pk h t =
       let s = with_by_side tag among t in
       let f = holds_from (coefficient x tag) (bound m tag) (side rest tag) n e t pn pk h in
       (λ k. f.0 (s.0 k), λ k. s.1 (f.1 k))
 
-  with_up_to : (tag : Tag) (e : Fraction) → IsTagAmong m.size tag → coefficient x tag <ℤ pos 0 → IsEnd (coefficient x tag) (n *ℤ bound m tag -ℤ side rest tag) n e → (t : Fraction) → With tag t ↔ FractionAtMost t e
+  with_up_to : (tag : Tag) (e : Fraction) → IsTagAmong m.size tag → coefficient x tag <ℤ pos 0
+      → IsEnd (coefficient x tag) (n *ℤ bound m tag -ℤ side rest tag) n e → (t : Fraction) → With tag t ↔ FractionAtMost t e
   with_up_to tag e among pk h t =
       let s = with_by_side tag among t in
       let f = holds_up_to (coefficient x tag) (bound m tag) (side rest tag) n e t pn pk h in
       (λ k. f.0 (s.0 k), λ k. s.1 (f.1 k))
 
-  with_row_members : (tag : Tag) (i : Interval) (P : Fraction → Type 0) → IsTagAmong m.size tag → RowHolds m w n tag → Holds i P → IfOk (with_row m fs x tag i) (λ out. Holds out (λ t. P t × With tag t))
+  with_row_members : (tag : Tag) (i : Interval) (P : Fraction → Type 0) → IsTagAmong m.size tag → RowHolds m w n tag → Holds i P
+      → IfOk (with_row m fs x tag i) (λ out. Holds out (λ t. P t × With tag t))
   with_row_members tag i P among h holds =
       let k = coefficient x tag in
       let Q : Interval → Type 0 = λ out. Holds out (λ t. P t × With tag t) in
@@ -151,7 +165,8 @@ module _ (m : Judgements) (fs : List Fraction) (w : List ℤ) (n : ℤ) (x : ℕ
       let inner : G (int_lt k (pos 0)) = elim (int_lt k (pos 0)) as G [
         | true ↦ λ b c.
             let below : k <ℤ pos 0 = lt_yes k (pos 0) b in
-            IfOk-bind (checked_end m fs x tag) (λ end. Ok (up_to_end end i)) (IsEnd k (n *ℤ bound m tag -ℤ side rest tag) n) Q (end_is m fs w n x tag are same (below_apart k below)) (λ e he.
+            IfOk-bind (checked_end m fs x tag) (λ end. Ok (up_to_end end i)) (IsEnd k (n *ℤ bound m tag -ℤ side rest tag) n) Q
+            (end_is m fs w n x tag are same (below_apart k below)) (λ e he.
             members_up_to i e P (With tag) holds he.den_pos (λ t p. with_up_to tag e among below he t))
         | false ↦ λ b c.
             let none : k ≡ pos 0 = le_antisymm k (pos 0) (lt_no (pos 0) k c) (lt_no k (pos 0) b) in
@@ -160,7 +175,8 @@ module _ (m : Judgements) (fs : List Fraction) (w : List ℤ) (n : ℤ) (x : ℕ
       let outer : F (int_lt (pos 0) k) = elim (int_lt (pos 0) k) as F [
         | true ↦ λ b.
             let above : pos 0 <ℤ k = lt_yes (pos 0) k b in
-            IfOk-bind (checked_end m fs x tag) (λ end. Ok (from_end end i)) (IsEnd k (n *ℤ bound m tag -ℤ side rest tag) n) Q (end_is m fs w n x tag are same (above_apart k above)) (λ e he.
+            IfOk-bind (checked_end m fs x tag) (λ end. Ok (from_end end i)) (IsEnd k (n *ℤ bound m tag -ℤ side rest tag) n) Q
+            (end_is m fs w n x tag are same (above_apart k above)) (λ e he.
             members_from i e P (With tag) holds he.den_pos (λ t p. with_from tag e among above he t))
         | false ↦ λ b. inner refl b
       ] in
@@ -170,13 +186,17 @@ module _ (m : Judgements) (fs : List Fraction) (w : List ℤ) (n : ℤ) (x : ℕ
   abbrev pub AllWith : List Tag → Fraction → Type 0
   AllWith tags t = AllByRecursion (λ tag. With tag t) tags
 
-  pub with_rows_members : (tags : List Tag) (i : Interval) (P : Fraction → Type 0) → AllByRecursion (IsTagAmong m.size) tags → AllByRecursion (RowHolds m w n) tags → Holds i P
+  pub with_rows_members : (tags : List Tag) (i : Interval) (P : Fraction → Type 0) → AllByRecursion (IsTagAmong m.size) tags
+      → AllByRecursion (RowHolds m w n) tags → Holds i P
       → IfOk (with_rows m fs x tags i) (λ out. Holds out (λ t. P t × AllWith tags t))
   with_rows_members [] i P among h holds = same_members i P (λ t. P t × Unit {0}) (λ t p. (λ y. (y, tt), λ y. y.0)) holds
   with_rows_members (tag ∷ tags) i P among h holds =
-      IfOk-bind (with_row m fs x tag i) (λ left. with_rows m fs x tags left) (λ left. Holds left (λ t. P t × With tag t)) (λ out. Holds out (λ t. P t × AllWith (tag ∷ tags) t)) (with_row_members tag i P among.0 h.0 holds) (λ left hl.
-      IfOk-weaker (with_rows m fs x tags left) (λ out. Holds out (λ t. (P t × With tag t) × AllWith tags t)) (λ out. Holds out (λ t. P t × AllWith (tag ∷ tags) t))
-      (λ out ho. same_members out (λ t. (P t × With tag t) × AllWith tags t) (λ t. P t × AllWith (tag ∷ tags) t) (λ t p. (λ y. (y.0.0, (y.0.1, y.1)), λ y. ((y.0, y.1.0), y.1.1))) ho)
+      IfOk-bind (with_row m fs x tag i) (λ left. with_rows m fs x tags left) (λ left. Holds left (λ t. P t × With tag t))
+      (λ out. Holds out (λ t. P t × AllWith (tag ∷ tags) t)) (with_row_members tag i P among.0 h.0 holds) (λ left hl.
+      IfOk-weaker (with_rows m fs x tags left) (λ out. Holds out (λ t. (P t × With tag t) × AllWith tags t))
+      (λ out. Holds out (λ t. P t × AllWith (tag ∷ tags) t))
+      (λ out ho. same_members out (λ t. (P t × With tag t) × AllWith tags t) (λ t. P t × AllWith (tag ∷ tags) t)
+      (λ t p. (λ y. (y.0.0, (y.0.1, y.1)), λ y. ((y.0, y.1.0), y.1.1))) ho)
       (with_rows_members tags left (λ t. P t × With tag t) among.1 h.1 hl))
 
 -- ---- where an end is too wide
@@ -190,7 +210,8 @@ abbrev pub Refuses : Result Interval TooWide → Type 0 → Type 0
 Refuses (Ok i) W = ¬ W
 Refuses (Err e) W = W
 
-refuses_end : (e : Result Fraction TooWide) (k : ℤ) (narrow : Fraction → Interval) → k ≢ pos 0 → Refuses (e >>= (λ end. Ok (narrow end))) ((k ≢ pos 0) × (e ≡ Err (record {})))
+refuses_end : (e : Result Fraction TooWide) (k : ℤ) (narrow : Fraction → Interval) → k ≢ pos 0
+    → Refuses (e >>= (λ end. Ok (narrow end))) ((k ≢ pos 0) × (e ≡ Err (record {})))
 refuses_end (Ok end) k narrow apart = λ h. cc
 refuses_end (Err wide) k narrow apart = (apart, refl)
 
@@ -212,7 +233,8 @@ with_row_refuses m fs x tag i =
     ] in
     outer refl
 
-refuses_then : (r : Result Interval TooWide) (next : Interval → Result Interval TooWide) (W V : Type 0) → Refuses r W → ((i : Interval) → Refuses (next i) V) → Refuses (r >>= next) (W ⊎ V)
+refuses_then : (r : Result Interval TooWide) (next : Interval → Result Interval TooWide) (W V : Type 0) → Refuses r W → ((i : Interval) → Refuses (next i) V)
+    → Refuses (r >>= next) (W ⊎ V)
 refuses_then (Ok i) next W V h g = behind (next i) (g i)
   where
     behind : (s : Result Interval TooWide) → Refuses s V → Refuses s (W ⊎ V)
@@ -220,7 +242,9 @@ refuses_then (Ok i) next W V h g = behind (next i) (g i)
     behind (Err e) k = inr k
 refuses_then (Err e) next W V h g = inl h
 
-pub with_rows_refuses : (m : Judgements) (fs : List Fraction) (x : ℕ) (tags : List Tag) (i : Interval) → Refuses (with_rows m fs x tags i) (HasWideEnd m fs x tags)
+pub with_rows_refuses : (m : Judgements) (fs : List Fraction) (x : ℕ) (tags : List Tag) (i : Interval)
+    → Refuses (with_rows m fs x tags i) (HasWideEnd m fs x tags)
 with_rows_refuses m fs x [] i = λ h. h
 with_rows_refuses m fs x (tag ∷ tags) i =
-    refuses_then (with_row m fs x tag i) (λ left. with_rows m fs x tags left) (IsWide m fs x tag) (HasWideEnd m fs x tags) (with_row_refuses m fs x tag i) (λ left. with_rows_refuses m fs x tags left)
+    refuses_then (with_row m fs x tag i) (λ left. with_rows m fs x tags left) (IsWide m fs x tag) (HasWideEnd m fs x tags) (with_row_refuses m fs x tag i)
+    (λ left. with_rows_refuses m fs x tags left)

@@ -40,5 +40,6 @@ met_never_rise m fs are met p q pair =
     let low : SameFraction (record { num = value_at w q; den = n }) f = IsWriting-at fs w n (q - 1) (pos 0) nought (omega arith) writing in
     let high : SameFraction (record { num = value_at w p; den = n }) g = IsWriting-at fs w n (p - 1) (pos 0) nought (omega arith) writing in
     let over = at_most_over (value_at w q) (value_at w p) n writing.den_pos falls in
-    FractionAtMost-same_left f (record { num = value_at w q; den = n }) g pf writing.den_pos pg (SameFraction-sym (record { num = value_at w q; den = n }) f low)
+    FractionAtMost-same_left f (record { num = value_at w q; den = n }) g pf writing.den_pos pg
+    (SameFraction-sym (record { num = value_at w q; den = n }) f low)
     (FractionAtMost-same_right (record { num = value_at w q; den = n }) (record { num = value_at w p; den = n }) g writing.den_pos writing.den_pos pg over high)

@@ -24,12 +24,14 @@ pub with_rows_append : (m : Judgements) (values : List Fraction) (x : ℕ) (xs y
     → with_rows m values x (xs ++ ys) i ≡ ((with_rows m values x xs i) >>= (λ left. with_rows m values x ys left))
 with_rows_append m values x [] ys i = refl
 with_rows_append m values x (tag ∷ xs) ys i =
-    bind_same (with_row m values x tag i) (λ left. with_rows m values x (xs ++ ys) left) (λ left. (with_rows m values x xs left) >>= (λ other. with_rows m values x ys other)) (λ left. with_rows_append m values x xs ys left)
+    bind_same (with_row m values x tag i) (λ left. with_rows m values x (xs ++ ys) left)
+    (λ left. (with_rows m values x xs left) >>= (λ other. with_rows m values x ys other)) (λ left. with_rows_append m values x xs ys left)
     ∙ bind_assoc (with_row m values x tag i) (λ left. with_rows m values x xs left) (λ other. with_rows m values x ys other)
 
 -- all rows
 pub with_rows_in_order : (m : Judgements) (values : List Fraction) (x : ℕ) (i : Interval)
-    → with_rows m values x (rows m) i ≡ ((((with_rows m values x (lower_rows m) i) >>= (λ a. with_rows m values x (zero_rows m) a)) >>= (λ b. with_rows m values x (cross_rows m) b)) >>= (λ c. with_rows m values x (order_rows m) c))
+    → with_rows m values x (rows m) i ≡ ((((with_rows m values x (lower_rows m) i) >>= (λ a. with_rows m values x (zero_rows m) a)) >>=
+    (λ b. with_rows m values x (cross_rows m) b)) >>= (λ c. with_rows m values x (order_rows m) c))
 with_rows_in_order m values x i =
     with_rows_append m values x (lower_rows m ++ zero_rows m ++ cross_rows m) (order_rows m) i
     ∙ ap (λ r. r >>= (λ c. with_rows m values x (order_rows m) c))
@@ -38,7 +40,8 @@ with_rows_in_order m values x i =
 
 -- one order row, and those behind it
 pub order_rows_next : (m : Judgements) (values : List Fraction) (x size p : ℕ) (i j : Interval) → p < size → with_row m values x (Order p) i ≡ Ok j
-    → with_rows m values x (map (λ p. Order p) (range_with_len p (size - p))) i ≡ with_rows m values x (map (λ p. Order p) (range_with_len (p + 1) (size - (p + 1)))) j
+    → with_rows m values x (map (λ p. Order p) (range_with_len p (size - p))) i
+    ≡ with_rows m values x (map (λ p. Order p) (range_with_len (p + 1) (size - (p + 1)))) j
 order_rows_next m values x size p i j h is =
     let e : size - p ≡ suc (size - (p + 1)) = omega arith in
     rw (e, is) refl

@@ -61,25 +61,31 @@ module _ (m : Judgements) (w : List ℤ) (n : ℤ) (x : ℕ) (met : IsMetBy m w 
       every_in_range (λ p. P (Order p)) 1 (m.size - 1) x (every_from_map P (λ p. Order p) (range_with_len 1 (m.size - 1)) orders) low (omega arith)
 
   -- it holds from the value of the next element on
-  order_from : (f t : Fraction) → IsFraction f → SameFraction (record { num = value_at w (x + 1); den = n }) f → RowHolds m (replaced w n x t) (n *ℤ t.den) (Order x) ↔ FractionAtMost f t
+  order_from : (f t : Fraction) → IsFraction f → SameFraction (record { num = value_at w (x + 1); den = n }) f
+      → RowHolds m (replaced w n x t) (n *ℤ t.den) (Order x) ↔ FractionAtMost f t
   order_from f t pf is_f =
       let in_w : x - 1 < length w = omega (arith, met.scale.each) in
-      let here : value_at (replaced w n x t) x ≡ t.num *ℤ n = get_or-set_same (scale t.den w) (x - 1) (t.num *ℤ n) (pos 0) (omega (arith, length-scale t.den w)) in
+      let here : value_at (replaced w n x t) x ≡ t.num *ℤ n = get_or-set_same (scale t.den w) (x - 1) (t.num *ℤ n) (pos 0)
+      (omega (arith, length-scale t.den w)) in
       let apart : x + 1 - 1 ≢ x - 1 = λ h. absurd (omega arith) in
-      let next : value_at (replaced w n x t) (x + 1) ≡ t.den *ℤ value_at w (x + 1) = get_or-set_other (scale t.den w) (x - 1) (x + 1 - 1) (t.num *ℤ n) (pos 0) apart ∙ get_or-scale t.den w (x + 1 - 1) in
+      let next : value_at (replaced w n x t) (x + 1) ≡ t.den *ℤ value_at w (x + 1) = get_or-set_other (scale t.den w) (x - 1) (x + 1 - 1) (t.num *ℤ n)
+      (pos 0) apart ∙ get_or-scale t.den w (x + 1 - 1) in
       let y = value_at w (x + 1) in (
         λ h.
             let s : pos 0 ≤ℤ (t.num *ℤ n -ℤ t.den *ℤ y) = rw (here, next) at h in
             cancel_le (f.num *ℤ t.den) (t.num *ℤ f.den) n met.scale.den_pos
-            (combine6 (λ y n a c p d. a ⊗ d ⊗ n ≼ p ⊗ c ⊗ n ⇐ c ✶ (con (pos 0) ≼ p ⊗ n ⊖ d ⊗ y) ∷ neg d ✶ (y ⊗ c ≗ a ⊗ n) ∷ []) refl y n f.num f.den t.num t.den (le_of_lt (pos 0) f.den pf) s is_f),
+            (combine6 (λ y n a c p d. a ⊗ d ⊗ n ≼ p ⊗ c ⊗ n ⇐ c ✶ (con (pos 0) ≼ p ⊗ n ⊖ d ⊗ y) ∷ neg d ✶ (y ⊗ c ≗ a ⊗ n) ∷ []) refl y n f.num f.den t.num
+            t.den (le_of_lt (pos 0) f.den pf) s is_f),
         λ h.
             rw (here, next)
             (cancel_le (pos 0) (t.num *ℤ n -ℤ t.den *ℤ y) f.den pf
-            (combine6 (λ y n a c p d. con (pos 0) ⊗ c ≼ (p ⊗ n ⊖ d ⊗ y) ⊗ c ⇐ n ✶ (a ⊗ d ≼ p ⊗ c) ∷ d ✶ (y ⊗ c ≗ a ⊗ n) ∷ []) refl y n f.num f.den t.num t.den (le_of_lt (pos 0) n met.scale.den_pos) h is_f)),
+            (combine6 (λ y n a c p d. con (pos 0) ⊗ c ≼ (p ⊗ n ⊖ d ⊗ y) ⊗ c ⇐ n ✶ (a ⊗ d ≼ p ⊗ c) ∷ d ✶ (y ⊗ c ≗ a ⊗ n) ∷ []) refl y n f.num f.den t.num t.den
+            (le_of_lt (pos 0) n met.scale.den_pos) h is_f)),
       )
 
 -- the rows leave the slack
-slack_over : (m : Judgements) (fs : List Fraction) (w : List ℤ) (n : ℤ) (x : ℕ) (next : Fraction) → AreFractions fs → IsWriting fs w n → IsMetBy m w n → 1 ≤ x → x < m.size → next ≡ get_or fs x next
+slack_over : (m : Judgements) (fs : List Fraction) (w : List ℤ) (n : ℤ) (x : ℕ) (next : Fraction) → AreFractions fs → IsWriting fs w n → IsMetBy m w n → 1 ≤ x
+    → x < m.size → next ≡ get_or fs x next
     → IfOk (with_rows m fs x (rows m) (from_next next)) (IsSlack m w n x)
 slack_over m fs w n x next are writing met low above is_next =
     let each = IsWriting-length fs w n writing in
@@ -87,7 +93,8 @@ slack_over m fs w n x next are writing met low above is_next =
     let in_fs : x < length fs = omega (arith, met.scale.each, each) in
     let pf : IsFraction next = subst (λ f. IsFraction f) (sym is_next) (All-get_or IsFraction fs x next in_fs are) in
     let e : x + 1 - 1 ≡ x = omega arith in
-    let at_x : SameFraction (record { num = get_or w x (pos 0); den = n }) next = subst (λ f. SameFraction (record { num = get_or w x (pos 0); den = n }) f) (sym is_next) (IsWriting-at fs w n x (pos 0) next in_fs writing) in
+    let at_x : SameFraction (record { num = get_or w x (pos 0); den = n }) next = subst (λ f. SameFraction (record { num = get_or w x (pos 0); den = n }) f)
+    (sym is_next) (IsWriting-at fs w n x (pos 0) next in_fs writing) in
     let is_f : SameFraction (record { num = value_at w (x + 1); den = n }) next = rw e at_x in
     let P : Fraction → Type 0 = λ t. RowHolds m (replaced w n x t) (n *ℤ t.den) (Order x) in
     let start : Holds (from_next next) P = record {
@@ -95,15 +102,18 @@ slack_over m fs w n x next are writing met low above is_next =
       high_pos = tt;
       exactly = λ t p. let o = order_from m w n x met low above next t pf is_f in (λ h. (o.0 h, tt), λ h. o.1 h.0);
     } in
-    IfOk-weaker (with_rows m fs x (rows m) (from_next next)) (λ out. Holds out (λ t. P t × AllWith m fs w n x are writing.same writing.den_pos low within (rows m) t)) (IsSlack m w n x)
+    IfOk-weaker (with_rows m fs x (rows m) (from_next next)) (λ out. Holds out
+    (λ t. P t × AllWith m fs w n x are writing.same writing.den_pos low within (rows m) t)) (IsSlack m w n x)
     (λ out h t p.
     let a = allowed_by_rows m w n x met low above t p in (
       λ k. let all = a.0 k in (h.exactly t p).0 (order_row m w n x met low above (RowHolds m (replaced w n x t) (n *ℤ t.den)) all, all),
       λ k. a.1 ((h.exactly t p).1 k).1,
     ))
-    (with_rows_members m fs w n x are writing.same writing.den_pos low within (rows m) (from_next next) P (every-rows m) (rows_from_met m w n (le_of_lt (pos 0) n writing.den_pos) met.meets) start)
+    (with_rows_members m fs w n x are writing.same writing.den_pos low within (rows m) (from_next next) P (every-rows m)
+    (rows_from_met m w n (le_of_lt (pos 0) n writing.den_pos) met.meets) start)
 
-pub slack_is : (m : Judgements) (fs : List Fraction) (x : ℕ) (next : Fraction) → AreFractions fs → MeetValues m fs → 1 ≤ x → x < m.size → next ≡ get_or fs x next
+pub slack_is : (m : Judgements) (fs : List Fraction) (x : ℕ) (next : Fraction) → AreFractions fs → MeetValues m fs → 1 ≤ x → x < m.size → next
+    ≡ get_or fs x next
     → IfOk (with_rows m fs x (rows m) (from_next next)) (IsSlackOf m fs x)
 slack_is m fs x next are met low above is_next =
     for_all (with_rows m fs x (rows m) (from_next next)) (λ w n writing. slack_over m fs w n x next are writing (met w n writing) low above is_next)
@@ -120,7 +130,8 @@ zero_in a d h = (omega (arith, lin, h, zero-*ℤ d, *ℤ-one a), omega (arith, l
 zero_from : (a d : ℤ) → (pos 0 *ℤ d) ≤ℤ (a *ℤ pos 1) → (a *ℤ pos 1) ≤ℤ (pos 0 *ℤ d) → a ≡ pos 0
 zero_from a d up down = le_antisymm a (pos 0) (omega (arith, lin, down, zero-*ℤ d, *ℤ-one a)) (omega (arith, lin, up, zero-*ℤ d, *ℤ-one a))
 
-pub slack_last : (m : Judgements) (fs : List Fraction) → 1 ≤ m.size → MeetValues m fs → IsSlackOf m fs m.size (record { low = fraction_of (pos 0); high = Some (fraction_of (pos 0)) })
+pub slack_last : (m : Judgements) (fs : List Fraction) → 1 ≤ m.size → MeetValues m fs
+    → IsSlackOf m fs m.size (record { low = fraction_of (pos 0); high = Some (fraction_of (pos 0)) })
 slack_last m fs least met w n writing t p = (there, back)
   where
     is_met : IsMetBy m w n
@@ -139,7 +150,8 @@ slack_last m fs least met w n writing t p = (there, back)
         let down : (t.num *ℤ pos 1) ≤ℤ (pos 0 *ℤ t.den) = k.1 in
         let zero_num : t.num ≡ pos 0 = zero_from t.num t.den up down in
         let own : t.num *ℤ n ≡ get_or (scale t.den w) (m.size - 1) (pos 0) =
-        rw zero_num (ring2 (λ n d. con (pos 0) ⊗ n ≗ d ⊗ con (pos 0)) refl n t.den) ∙ ap (λ z. t.den *ℤ z) (sym is_met.scale.last) ∙ sym (get_or-scale t.den w (m.size - 1)) in
+        rw zero_num (ring2 (λ n d. con (pos 0) ⊗ n ≗ d ⊗ con (pos 0)) refl n t.den) ∙ ap (λ z. t.den *ℤ z) (sym is_met.scale.last)
+        ∙ sym (get_or-scale t.den w (m.size - 1)) in
         let same : replaced w n m.size t ≡ scale t.den w = ap (λ z. set (scale t.den w) (m.size - 1) z) own ∙ set-get_or (scale t.den w) (m.size - 1) (pos 0) in
         subst₂ (λ v k. IsMetBy m v k) (sym same) (*ℤ_comm t.den n)
         (IsMetBy-same m w (scale t.den w) n (t.den *ℤ n) (mul_pos t.den n p writing.den_pos) (SameFractions-over_scale t.den w n) is_met)

@@ -33,8 +33,8 @@ pub record IsAnchoredScale (w : List ℤ) (n : ℤ) (good neutral : ℕ) (v : Li
 
 -- so for values of both, however they are written
 abbrev pub AreAnchored : List Fraction → ℕ → ℕ → List Fraction → Type 0
-AreAnchored values good neutral anchored = (w : List ℤ) (n : ℤ) (v : List ℤ) (k : ℤ) → IsWriting values w n → IsWriting anchored v k
-    → IsAnchoredScale w n good neutral v k
+AreAnchored values good neutral anchored = (w : List ℤ) (n : ℤ) (v : List ℤ) (k : ℤ)
+    → IsWriting values w n → IsWriting anchored v k → IsAnchoredScale w n good neutral v k
 
 -- the value of element p, counted from 1
 abbrev pub fraction_at : List Fraction → ℕ → Fraction

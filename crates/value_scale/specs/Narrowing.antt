@@ -32,8 +32,11 @@ up_to_end end interval = record { low = interval.low; high = Some (lesser end in
 -- what is left of the interval by one row
 abbrev pub with_row : Judgements → List Fraction → ℕ → Tag → Interval → Result Interval TooWide
 with_row m values x tag interval =
-    if int_lt (pos 0) (coefficient x tag) then ((checked_end m values x tag) >>= (λ end. Ok (from_end end interval)))
-    else (if int_lt (coefficient x tag) (pos 0) then ((checked_end m values x tag) >>= (λ end. Ok (up_to_end end interval))) else Ok interval)
+    if int_lt (pos 0) (coefficient x tag)
+    then ((checked_end m values x tag) >>= (λ end. Ok (from_end end interval)))
+    else (if int_lt (coefficient x tag) (pos 0)
+    then ((checked_end m values x tag) >>= (λ end. Ok (up_to_end end interval)))
+    else Ok interval)
 
 -- so where there is such a row
 abbrev pub with_row_where : Bool → Judgements → List Fraction → ℕ → Tag → Interval → Result Interval TooWide
@@ -42,4 +45,5 @@ with_row_where there m values x tag interval = if there then with_row m values x
 -- by these rows, one after another
 abbrev pub with_rows : Judgements → List Fraction → ℕ → List Tag → Interval → Result Interval TooWide
 with_rows m values x [] interval = Ok interval
-with_rows m values x (tag ∷ tags) interval = (with_row m values x tag interval) >>= (λ narrowed. with_rows m values x tags narrowed)
+with_rows m values x (tag ∷ tags) interval =
+    (with_row m values x tag interval) >>= (λ narrowed. with_rows m values x tags narrowed)

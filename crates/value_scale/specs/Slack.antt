@@ -72,7 +72,8 @@ vacated values x = set values (x - 1) (fraction_of (pos 0))
 -- the left side of a constraint; that of an equality is 0 less how far p is above q
 abbrev pub checked_side : List Fraction → Tag → Result Fraction TooWide
 checked_side values (Lower p q) = constraint_value values (Lower p q)
-checked_side values (Zero p q) = (constraint_value values (Zero p q)) >>= (λ gap. checked_difference (fraction_of (pos 0)) gap)
+checked_side values (Zero p q) =
+    (constraint_value values (Zero p q)) >>= (λ gap. checked_difference (fraction_of (pos 0)) gap)
 checked_side values (Cross p q y z) = constraint_value values (Cross p q y z)
 checked_side values (Order p) = constraint_value values (Order p)
 
@@ -86,7 +87,8 @@ checked_end m values x tag = do
 -- of these rows one has the value of x in it, and its end is too wide to be worked
 abbrev pub HasWideEnd : Judgements → List Fraction → ℕ → List Tag → Type 0
 HasWideEnd m values x [] = ⊥
-HasWideEnd m values x (tag ∷ tags) = ((coefficient x tag ≢ pos 0) × (checked_end m values x tag ≡ Err (record {}))) ⊎ HasWideEnd m values x tags
+HasWideEnd m values x (tag ∷ tags) =
+    ((coefficient x tag ≢ pos 0) × (checked_end m values x tag ≡ Err (record {}))) ⊎ HasWideEnd m values x tags
 
 -- the last element has its place; for each other one all rows are worked
 abbrev pub IsTooWideToWork : Judgements → List Fraction → ℕ → Type 0

@@ -51,9 +51,9 @@ impl<T: Drop> From<AllocFailed<T>> for AnchorFault {
 }
 
 /// The values of a scale, mapped by the straight line that sends the element `good` to 100 and the element `neutral` to 0.
-/// Elements count from 1, and no element has a greater value than one listed above it. With `s` the value of `good` less that of
-/// `neutral`, each value less that of `neutral` is multiplied by `100 / s`, from the first on; it refuses where one of these
-/// steps does.
+/// Elements count from 1, and no element has a greater value than one listed above it. With `s` the value of `good` less
+/// that of `neutral`, each value less that of `neutral` is multiplied by `100 / s`, from the first on; it refuses where one
+/// of these steps does.
 pub fn anchor(
     alloc: Global,
     values: &[Frac],

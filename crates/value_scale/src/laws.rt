@@ -22,8 +22,8 @@ pub fn one_anchored_scale()
 pub fn anchored_values_fall()
     ensures each { (w : List ℤ) (n : ℤ) (good neutral : ℕ) (v : List ℤ) (k : ℤ)
         → IsAnchoredScale w n good neutral v k → length v ≡ length w }
-    ensures fall { (w : List ℤ) (n : ℤ) (good neutral : ℕ) (v : List ℤ) (k : ℤ) (p q : ℕ) → pos 0 <ℤ n
-        → IsAnchoredScale w n good neutral v k → IsPair (length w) p q
+    ensures fall { (w : List ℤ) (n : ℤ) (good neutral : ℕ) (v : List ℤ) (k : ℤ) (p q : ℕ)
+        → pos 0 <ℤ n → IsAnchoredScale w n good neutral v k → IsPair (length w) p q
         → value_at w q ≤ℤ value_at w p → value_at v q ≤ℤ value_at v p }
 {}
 

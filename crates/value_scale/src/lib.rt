@@ -7,6 +7,8 @@ mod fault;
 mod gap_sums;
 pub mod laws;
 mod slacks;
+#[cfg(test)]
+mod tests;
 
 pub use anchored_scale::{AnchorFault, anchor};
 pub use basic::{Basic, basic_of_outcome};

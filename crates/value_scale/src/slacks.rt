@@ -281,8 +281,8 @@ fn with_cross(
     requires element { (1 ≤ element) × (element ≤ matrix.now.size) }
     requires left { IsPair matrix.now.size left.0 left.1 }
     requires right { IsPair matrix.now.size right.0 right.1 }
-    ensures { result ≡ with_row_where (nat_lt (range_at matrix.now right.0 right.1).hi (range_at matrix.now left.0 left.1).lo)
-        matrix.now values.now element (Tag.Cross left.0 left.1 right.0 right.1) interval }
+    ensures { let there = nat_lt (range_at matrix.now right.0 right.1).hi (range_at matrix.now left.0 left.1).lo in
+        result ≡ with_row_where there matrix.now values.now element (Tag.Cross left.0 left.1 right.0 right.1) interval }
 {
     let (above, _) = matrix.get(usize::from(left.0), usize::from(left.1));
     let (below, _) = matrix.get(usize::from(right.0), usize::from(right.1));
@@ -310,7 +310,8 @@ fn with_cross_rows_under(
     requires each { length values.now ≡ matrix.now.size }
     requires element { (1 ≤ element) × (element ≤ matrix.now.size) }
     requires pair { IsPair matrix.now.size pair.0 pair.1 }
-    ensures { result ≡ with_rows matrix.now values.now element (cross_rows_under matrix.now pair (pairs matrix.now.size)) interval }
+    ensures { result
+        ≡ with_rows matrix.now values.now element (cross_rows_under matrix.now pair (pairs matrix.now.size)) interval }
 {
     let mut left = interval;
     for other in matrix.pairs() {

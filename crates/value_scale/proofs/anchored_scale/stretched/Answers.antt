@@ -6,7 +6,8 @@ use Rattle.value_scale.proofs.anchored_scale.stretched.Goals as goal
 pub returns-clause-each : goal.returns-clause-each
 returns-clause-each c =
     let fs = c.args.values.now in
-    answered (λ v. v.items) (checked_anchor fs c.args.good c.args.neutral) c.worked.result (λ vs. length vs ≡ length fs) (anchored_length fs c.args.good c.args.neutral) c.worked.ensures
+    answered (λ v. v.items) (checked_anchor fs c.args.good c.args.neutral) c.worked.result (λ vs. length vs ≡ length fs)
+    (anchored_length fs c.args.good c.args.neutral) c.worked.ensures
 
 pub returns-clause-anchored : goal.returns-clause-anchored
 returns-clause-anchored c =

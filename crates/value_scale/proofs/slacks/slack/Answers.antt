@@ -29,14 +29,16 @@ pub returns-clause-fits : goal.returns-clause-fits
 returns-clause-fits c =
     let m = c.args.matrix.now in
     let fs = c.args.values.now in
-    subst (λ r. OnOk r (¬ IsTooWideToWork m fs c.args.element)) (sym c.with_all_rows.ensures) (fits_is m fs c.args.element (from_next c.index-values-element.result))
+    subst (λ r. OnOk r (¬ IsTooWideToWork m fs c.args.element)) (sym c.with_all_rows.ensures)
+    (fits_is m fs c.args.element (from_next c.index-values-element.result))
 
 pub returns-clause-too_wide : goal.returns-clause-too_wide
 returns-clause-too_wide c =
     let m = c.args.matrix.now in
     let fs = c.args.values.now in
     let above : c.args.element < m.size = search rules in
-    subst (λ r. OnErr r (IsTooWideToWork m fs c.args.element)) (sym c.with_all_rows.ensures) (too_wide_is m fs c.args.element (from_next c.index-values-element.result) above)
+    subst (λ r. OnErr r (IsTooWideToWork m fs c.args.element)) (sym c.with_all_rows.ensures)
+    (too_wide_is m fs c.args.element (from_next c.index-values-element.result) above)
 
 pub returns-clause-slack : goal.returns-clause-slack
 returns-clause-slack c =
@@ -44,4 +46,5 @@ returns-clause-slack c =
     let fs = c.args.values.now in
     let above : c.args.element < m.size = search rules in
     subst (λ r. IfOk r (IsSlackOf m fs c.args.element)) (sym c.with_all_rows.ensures)
-    (slack_is m fs c.args.element c.index-values-element.result c.are_fractions.ensures.positive c.requires.met c.requires.element.0 above c.index-values-element.is)
+    (slack_is m fs c.args.element c.index-values-element.result c.are_fractions.ensures.positive c.requires.met c.requires.element.0 above
+    c.index-values-element.is)

@@ -6,6 +6,7 @@ use Rattle.value_scale.proofs.slacks.with_zero_rows.Given as goal
 
 abbrev pub invariant-loop-p : goal.invariant-loop-p
 invariant-loop-p l = record {
-  so_far : with_rows l.matrix l.values l.element (zero_rows_of l.matrix l.p-iterator) l.left ≡ with_rows l.matrix l.values l.element (zero_rows l.matrix) l.initial.left;
+  so_far : with_rows l.matrix l.values l.element (zero_rows_of l.matrix l.p-iterator) l.left
+      ≡ with_rows l.matrix l.values l.element (zero_rows l.matrix) l.initial.left;
   pairs : AllPairsOf l.matrix.size l.p-iterator;
 }
