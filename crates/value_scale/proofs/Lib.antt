@@ -8,3 +8,4 @@ pub mod MetLemmas
 pub mod NarrowingLemmas
 pub mod SideLemmas
 pub mod SlackLemmas
+pub mod UnboundedLemmas

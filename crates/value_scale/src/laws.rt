@@ -1,11 +1,11 @@
 //! Laws of the definitions, as contracts of functions that do nothing.
 
-ghost use Rattle.std.specs.Prelude.{◌≡◌, ℕ, List, ℤ, pos, length, ◌<ℤ◌, ◌≤ℤ◌};
-ghost use Rattle.integers.specs.Fraction.{over, SameFractions};
-ghost use Rattle.judgement_matrix.specs.Matrix.{IsPair};
-ghost use Rattle.judgement_matrix.specs.Scale.{value_at};
+ghost use Rattle.std.specs.Prelude.{◌≡◌, ◌≤◌, None, ℕ, List, ℤ, pos, length, ◌<ℤ◌, ◌≤ℤ◌};
+ghost use Rattle.integers.specs.Fraction.{Fraction, IsFraction, over, SameFractions};
+ghost use Rattle.judgement_matrix.specs.Matrix.{IsPair, Judgements};
+ghost use Rattle.judgement_matrix.specs.Scale.{value_at, IsMetBy};
 ghost use Rattle.value_scale.specs.Anchor.{IsAnchoredScale, AreReferences, NeverRise};
-ghost use Rattle.value_scale.specs.Slack.{MeetValues};
+ghost use Rattle.value_scale.specs.Slack.{IsSlack, MeetValues};
 
 use frac128::Frac;
 use frac128::laws::are_fractions;
@@ -35,3 +35,9 @@ pub fn met_values_never_rise(matrix: &Matrix, values: &[Frac])
 {
     are_fractions(values);
 }
+
+/// States that only the first element can have no upper end. It does nothing.
+pub fn only_the_first_is_unbounded()
+    ensures { (m : Judgements) (w : List ℤ) (n : ℤ) (element : ℕ) (low : Fraction) → IsMetBy m w n → 2 ≤ element
+        → element ≤ m.size → IsFraction low → ¬ IsSlack m w n element (record { low = low; high = None }) }
+{}

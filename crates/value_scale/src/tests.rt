@@ -117,9 +117,15 @@ fn fault_of(alloc: Global, matrix: &Matrix, values: &[Frac]) -> Result<Option<An
 fn no_anchored_values(rt: HostRuntime) -> Result<(), Fail> {
     let matrix = Matrix::new(rt.alloc(), 3)?;
     let flat = [Frac::whole(0), Frac::whole(0), Frac::whole(0)];
-    assert_eq!(rt; fault_of(rt.alloc(), &matrix, &flat)?, Some(AnchorFault::Flat));
+    assert_eq!(rt;
+        fault_of(rt.alloc(), &matrix, &flat)?,
+        Some(AnchorFault::Flat)
+    );
     let least = Frac::make(1, i128::MAX).ok().ok_or("no fraction")?;
     let steep = [least, Frac::whole(0), Frac::whole(0)];
-    assert_eq!(rt; fault_of(rt.alloc(), &matrix, &steep)?, Some(AnchorFault::TooWide));
+    assert_eq!(rt;
+        fault_of(rt.alloc(), &matrix, &steep)?,
+        Some(AnchorFault::TooWide)
+    );
     Ok(())
 }
