@@ -6,14 +6,13 @@ use Rattle.std.proofs.Common.{◌≡◌, ℕ, zero, suc, ◌+◌, ◌-◌, ◌<�
 use Rattle.std.proofs.lemmas.List.{length-map}
 use Rattle.integers.specs.Fraction.{over, SameFractions}
 use Rattle.integers.specs.Vector.{scale}
-use Rattle.integers.proofs.Laws.{lin}
-use Rattle.integers.proofs.Order.{mul_pos, mul_le, cancel_eq, cancel_le, pos_of_mul, le_of_lt}
-use Rattle.integers.proofs.Ring.{con, neg, ◌⊕◌, ◌⊖◌, ◌⊗◌, ◌≗◌, ◌≼◌, ◌✶◌, ◌⇐◌, combine4, combine5, combine6, combine7, combine8, combine9}
+use Rattle.integers.proofs.Order.{mul_pos, cancel_eq, cancel_le, pos_of_mul, le_of_lt}
+use Rattle.integers.proofs.Ring.{con, neg, ◌⊕◌, ◌⊖◌, ◌⊗◌, ◌≗◌, ◌≼◌, ◌✶◌, ◌⇐◌, combine7, combine8, combine9}
 use Rattle.integers.proofs.Fractions.{SameFractions-over}
 use Rattle.integers.proofs.VectorLaws.{length-scale, get_or-scale}
 use Rattle.judgement_matrix.specs.Matrix.{IsPair}
 use Rattle.judgement_matrix.specs.Scale.{value_at}
-use Rattle.value_scale.specs.Anchor.{RisingLine, IsAnchoredScale, AreReferences}
+use Rattle.value_scale.specs.Anchor.{IsAnchoredScale, AreReferences}
 
 -- as many values
 pub anchored_each : (w : List ℤ) (n : ℤ) (good neutral : ℕ) (v : List ℤ) (k : ℤ) → IsAnchoredScale w n good neutral v k → length v ≡ length w

@@ -3,14 +3,14 @@ use Rattle.std.specs.Result.{IfOk}
 use Rattle.std.specs.Int.Signed.{lt_z_yes}
 use mathlib.Core.List.{cons≢nil, head-eq_of_cons-eq, tail-eq_of_cons-eq}
 use Rattle.std.proofs.lemmas.Int.{by_lt_z}
-use Rattle.std.proofs.Common.{◌≡◌, ◌≢◌, ℕ, zero, suc, ◌+◌, ◌-◌, ◌<◌, ◌≤◌, ℤ, pos, ◌+ℤ◌, ◌-ℤ◌, ◌*ℤ◌, neg_ℤ, ◌<ℤ◌, List, [], ◌∷◌, map, length, get_or, refl, sym, ap, ap₂, subst, ◌∙◌, Result, Ok, Err, arith}
+use Rattle.std.proofs.Common.{◌≡◌, ◌≢◌, ℕ, zero, suc, ◌-◌, ◌<◌, ℤ, pos, ◌+ℤ◌, ◌-ℤ◌, ◌*ℤ◌, neg_ℤ, ◌<ℤ◌, List, [], ◌∷◌, map, length, get_or, refl, sym, ap, ap₂, subst, ◌∙◌, Result, Ok, Err, arith}
 use Rattle.std.proofs.lemmas.List.Elements.{All-nil, All-cons, All-head, All-tail, All-get_or}
 use Rattle.std.proofs.lemmas.Result.{IfOk-weaker}
 use Rattle.integers.specs.Fraction.{Fraction, IsFraction, AreFractions, SameFraction, FractionAtMost, IsWriting, fraction_of, fraction_difference, fraction_product, fraction_quotient}
 use Rattle.integers.specs.Vector.{scale}
 use Rattle.integers.proofs.Laws.{lin}
 use Rattle.integers.proofs.Order.{mul_pos, cancel_eq, cancel_lt, zero_of_mul, le_antisymm}
-use Rattle.integers.proofs.Ring.{con, neg, ◌⊕◌, ◌⊖◌, ◌⊗◌, ◌≗◌, ◌≼◌, ◌≺◌, ◌✶◌, ◌⇐◌, ring2, combine2, combine4, combine6, combine7, combine9, combine10}
+use Rattle.integers.proofs.Ring.{con, neg, ◌⊕◌, ◌⊖◌, ◌⊗◌, ◌≗◌, ◌≺◌, ◌✶◌, ◌⇐◌, ring2, combine2, combine4, combine6, combine7, combine9}
 use Rattle.integers.proofs.FractionSums.{IsFraction-whole}
 use Rattle.integers.proofs.Writings.{IsWriting-at, IsWriting-cross, IsWriting-length}
 use Rattle.frac128.specs.Checked.{◌>>=◌, checked_difference, checked_product, checked_quotient}
@@ -19,7 +19,7 @@ use Rattle.frac128.proofs.FormulaLemmas.{IfOk-bind, IsValued, checked_difference
 use Rattle.value_scale.proofs.EachLemmas.{each_length}
 use Rattle.judgement_matrix.specs.Scale.{value_at}
 use Rattle.value_scale.specs.declared.anchored_scale.AnchorFault.{AnchorFault}
-use Rattle.value_scale.specs.Anchor.{RisingLine, IsAnchoredScale, AreAnchored, fraction_at, NeverRise, AreReferences, IsFlat, checked_each, checked_factor, checked_point, checked_line, checked_anchor, Gives}
+use Rattle.value_scale.specs.Anchor.{IsAnchoredScale, AreAnchored, fraction_at, NeverRise, AreReferences, IsFlat, checked_factor, checked_point, checked_line, checked_anchor, Gives}
 
 -- ---- one step each, over one denominator n
 

@@ -1,14 +1,13 @@
 -- Values of a scale that meets a matrix: how many they are, and that they never rise.
-use Rattle.std.proofs.Common.{◌≡◌, ℕ, ◌-◌, ◌<◌, ◌≤◌, ℤ, pos, ◌*ℤ◌, ◌≤ℤ◌, ◌<ℤ◌, List, length, sym, subst, ◌∙◌, arith}
+use Rattle.std.proofs.Common.{◌≡◌, ◌-◌, ℤ, pos, ◌≤ℤ◌, ◌<ℤ◌, List, length, sym, ◌∙◌, arith}
 use Rattle.std.proofs.lemmas.List.Elements.{All-get_or}
-use Rattle.integers.specs.Fraction.{Fraction, IsFraction, AreFractions, FractionAtMost, SameFraction, IsWriting, fraction_of, common_nums, common_den}
-use Rattle.integers.proofs.Laws.{lin}
+use Rattle.integers.specs.Fraction.{Fraction, IsFraction, AreFractions, FractionAtMost, SameFraction, fraction_of, common_nums, common_den}
 use Rattle.integers.proofs.Order.{mul_le, le_of_lt}
 use Rattle.integers.proofs.Fractions.{SameFraction-sym}
 use Rattle.integers.proofs.FractionOrder.{FractionAtMost-same_left, FractionAtMost-same_right}
 use Rattle.integers.proofs.Writings.{IsWriting-length, IsWriting-at, common_writing}
 use Rattle.judgement_matrix.specs.Matrix.{Judgements}
-use Rattle.judgement_matrix.specs.Scale.{value_at, IsMetBy}
+use Rattle.judgement_matrix.specs.Scale.{value_at}
 use Rattle.judgement_matrix.proofs.ScaleLemmas.{values_fall}
 use Rattle.value_scale.specs.Anchor.{fraction_at, NeverRise}
 use Rattle.value_scale.specs.Slack.{MeetValues}

@@ -1,13 +1,12 @@
 -- The left side of a constraint in the value of one element: what it is with 0 there, what it is with t there, and where it is just met.
 use Rattle.std.specs.Result.{IfOk}
 use Rattle.std.specs.Int.Signed.{lt_z_yes}
-use Rattle.std.proofs.Common.{◌≡◌, ◌≢◌, ◌↔◌, ℕ, zero, suc, ◌+◌, ◌-◌, ◌<◌, ◌≤◌, ℤ, pos, ◌+ℤ◌, ◌-ℤ◌, ◌*ℤ◌, ◌≤ℤ◌, ◌<ℤ◌, Bool, true, false, List, [], ◌∷◌, length, get_or, set, nat_eq, refl, sym, ap, subst, ◌∙◌, Result, Ok, Err, arith}
-use Rattle.std.specs.Prelude.{if◌then◌else◌}
+use Rattle.std.proofs.Common.{◌≡◌, ◌≢◌, ◌↔◌, ℕ, zero, suc, ◌+◌, ◌-◌, ◌≤◌, ℤ, pos, ◌+ℤ◌, ◌-ℤ◌, ◌*ℤ◌, ◌≤ℤ◌, ◌<ℤ◌, Bool, true, false, List, [], ◌∷◌, length, get_or, set, nat_eq, refl, sym, subst, ◌∙◌, arith}
 use Rattle.std.proofs.lemmas.Bool.Decides.{nat_tests}
 use Rattle.std.proofs.lemmas.List.{get_or-set_same, get_or-set_other}
 use Rattle.std.proofs.lemmas.List.Elements.{All-head, All-tail, All-set}
 use Rattle.std.proofs.lemmas.Result.{IfOk-weaker}
-use Rattle.integers.specs.Fraction.{Fraction, IsFraction, AreFractions, SameFraction, FractionAtMost, SameFractions, over, IsWriting, fraction_of, fraction_difference, fraction_quotient}
+use Rattle.integers.specs.Fraction.{Fraction, IsFraction, AreFractions, SameFraction, FractionAtMost, SameFractions, over, fraction_of, fraction_difference, fraction_quotient}
 use Rattle.integers.specs.Vector.{scale}
 use Rattle.integers.proofs.Laws.{lin}
 use Rattle.integers.proofs.Order.{mul_pos, le_of_lt, cancel_eq, cancel_le}
@@ -15,12 +14,11 @@ use Rattle.integers.proofs.Ring.{con, neg, ◌⊕◌, ◌⊖◌, ◌⊗◌, ◌�
 use Rattle.integers.proofs.FractionSums.{IsFraction-whole}
 use Rattle.integers.proofs.VectorLaws.{length-scale, get_or-scale}
 use Rattle.frac128.specs.Checked.{◌>>=◌, checked_difference, checked_quotient}
-use Rattle.frac128.specs.declared.number.TooWide.{TooWide}
 use Rattle.frac128.proofs.FormulaLemmas.{IfOk-bind, IsValued, checked_difference-value, checked_quotient-value}
-use Rattle.judgement_matrix.specs.Matrix.{Judgements, IsPair, range_at}
+use Rattle.judgement_matrix.specs.Matrix.{Judgements}
 use Rattle.judgement_matrix.specs.Scale.{value_at, difference}
 use Rattle.judgement_matrix.specs.Rows.{RowHolds, IsTagAmong}
-use Rattle.judgement_matrix.specs.Values.{fraction_at, checked_gap, constraint_value}
+use Rattle.judgement_matrix.specs.Values.{fraction_at, checked_gap}
 use Rattle.judgement_matrix.specs.declared.tag.Tag.{Tag}
 use Rattle.judgement_matrix.specs.declared.tag.Tag.TheVariants.{Lower, Zero, Cross, Order}
 use Rattle.value_scale.specs.Slack.{replaced, presence, gap_coefficient, coefficient, bound, vacated, checked_side, checked_end}

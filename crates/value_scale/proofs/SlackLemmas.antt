@@ -1,7 +1,7 @@
 -- The interval that the rows leave is the slack of an element.
 use lib.IntN.{*ℤ_comm, zero-*ℤ}
 use Rattle.std.specs.Result.{IfOk}
-use Rattle.std.proofs.Common.{◌≡◌, ◌≢◌, ◌↔◌, ℕ, ◌-◌, ◌<◌, ◌≤◌, ◌+◌, ℤ, pos, ◌*ℤ◌, ◌≤ℤ◌, ◌<ℤ◌, ◌-ℤ◌, List, [], ◌∷◌, ◌++◌, length, get_or, set, Option, Some, None, Result, Ok, Err, OnOk, OnErr, refl, sym, ap, subst, subst₂, ◌∙◌, arith}
+use Rattle.std.proofs.Common.{◌≡◌, ◌≢◌, ◌↔◌, ℕ, ◌-◌, ◌<◌, ◌≤◌, ◌+◌, ℤ, pos, ◌*ℤ◌, ◌≤ℤ◌, ◌-ℤ◌, List, [], ◌∷◌, ◌++◌, length, get_or, set, Some, Result, Ok, Err, OnOk, OnErr, refl, sym, ap, subst, subst₂, ◌∙◌, arith}
 use Rattle.std.specs.List.{AllByRecursion, range_with_len}
 use Rattle.std.proofs.lemmas.List.{get_or-set_same, get_or-set_other, length-set, set-get_or}
 use Rattle.std.proofs.lemmas.List.Elements.{All-get_or}
@@ -10,15 +10,14 @@ use Rattle.integers.specs.Fraction.{Fraction, IsFraction, AreFractions, Fraction
 use Rattle.integers.specs.Vector.{scale}
 use Rattle.integers.proofs.Laws.{lin, *ℤ-one}
 use Rattle.integers.proofs.Order.{mul_pos, le_of_lt, le_antisymm, cancel_le, zero_of_mul}
-use Rattle.integers.proofs.Ring.{con, neg, ◌⊕◌, ◌⊖◌, ◌⊗◌, ◌≗◌, ◌≼◌, ◌✶◌, ◌⇐◌, ring1, ring2, combine6}
+use Rattle.integers.proofs.Ring.{con, neg, ◌⊖◌, ◌⊗◌, ◌≗◌, ◌≼◌, ◌✶◌, ◌⇐◌, ring1, ring2, combine6}
 use Rattle.integers.proofs.Fractions.{SameFractions-over_scale}
-use Rattle.integers.proofs.FractionSums.{IsFraction-whole}
 use Rattle.integers.proofs.VectorLaws.{length-scale, get_or-scale}
 use Rattle.integers.proofs.Writings.{IsWriting-length, IsWriting-at}
 use Rattle.frac128.specs.declared.number.TooWide.{TooWide}
 use Rattle.judgement_matrix.specs.Matrix.{Judgements}
 use Rattle.judgement_matrix.specs.Scale.{value_at, IsMetBy}
-use Rattle.judgement_matrix.specs.Rows.{RowHolds, IsTagAmong, lower_rows, zero_rows, cross_rows, order_rows, rows}
+use Rattle.judgement_matrix.specs.Rows.{RowHolds, lower_rows, zero_rows, cross_rows, order_rows, rows}
 use Rattle.judgement_matrix.specs.declared.tag.Tag.{Tag}
 use Rattle.judgement_matrix.specs.declared.tag.Tag.TheVariants.{Order}
 use Rattle.judgement_matrix.proofs.AmongLemmas.{every-rows}
@@ -28,7 +27,7 @@ use Rattle.judgement_matrix.proofs.ScaleLemmas.{IsMetBy-same}
 use Rattle.value_scale.specs.Slack.{replaced, IsAllowed, IsIn, IsSlack, IsSlackOf, MeetValues, HasWideEnd, IsTooWideToWork}
 use Rattle.value_scale.specs.Narrowing.{from_next, with_rows}
 use Rattle.value_scale.specs.declared.slacks.Interval.{Interval}
-use Rattle.value_scale.proofs.IntervalLemmas.{Holds, With, AllWith, with_rows_members, Refuses, with_rows_refuses}
+use Rattle.value_scale.proofs.IntervalLemmas.{Holds, AllWith, with_rows_members, Refuses, with_rows_refuses}
 
 -- ---- an element that isn't the last
 

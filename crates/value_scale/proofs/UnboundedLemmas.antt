@@ -1,5 +1,5 @@
 -- Only the first element has no upper end.
-use Rattle.std.proofs.Common.{◌≡◌, ◌≢◌, ℕ, ◌+◌, ◌-◌, ◌<◌, ◌≤◌, ℤ, pos, negsuc, ◌*ℤ◌, ◌≤ℤ◌, ◌<ℤ◌, List, length, Option, None, get_or, refl, subst₂, ◌∙◌, arith}
+use Rattle.std.proofs.Common.{◌≡◌, ◌≢◌, ℕ, ◌+◌, ◌-◌, ◌≤◌, ℤ, pos, negsuc, ◌*ℤ◌, ◌≤ℤ◌, ◌<ℤ◌, List, None, refl, subst₂, ◌∙◌, arith}
 use Rattle.std.proofs.lemmas.Int.{ints}
 use Rattle.std.proofs.lemmas.List.{get_or-set_same, get_or-set_other}
 use Rattle.std.specs.Int.Signed.{lt_z_yes}
@@ -13,7 +13,6 @@ use Rattle.judgement_matrix.specs.Matrix.{Judgements}
 use Rattle.judgement_matrix.specs.Scale.{value_at, IsMetBy}
 use Rattle.judgement_matrix.proofs.ScaleLemmas.{values_fall}
 use Rattle.value_scale.specs.Slack.{replaced, IsSlack, IsAllowed}
-use Rattle.value_scale.specs.declared.slacks.Interval.{Interval}
 
 -- a number that is large enough
 record IsLarge (a b k : ℤ) : Type 0 where

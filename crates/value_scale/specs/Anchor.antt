@@ -1,6 +1,6 @@
 -- Anchored scales: 100 at the element good and 0 at the element neutral, the two references of the method
 -- (Bana e Costa, De Corte and Vansnick 2005).
-use Rattle.std.specs.Prelude.{◌≡◌, ◌-◌, ◌≤◌, ◌<◌, ℕ, ℤ, pos, ◌+ℤ◌, ◌*ℤ◌, ◌<ℤ◌, List, [], ◌∷◌, map, length, get_or, Result, Ok, Err, IsTrue}
+use Rattle.std.specs.Prelude.{◌≡◌, ◌-◌, ℕ, ℤ, pos, ◌+ℤ◌, ◌*ℤ◌, ◌<ℤ◌, List, [], ◌∷◌, map, length, get_or, Result, Ok, Err, IsTrue}
 use Rattle.std.specs.Result.{is_err}
 use Rattle.integers.specs.Fraction.{Fraction, FractionAtMost, SameFraction, IsWriting, fraction_of}
 use Rattle.integers.specs.Vector.{scale}

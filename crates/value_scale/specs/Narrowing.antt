@@ -1,5 +1,5 @@
 -- How the interval of an element narrows, row by row.
-use Rattle.std.specs.Prelude.{ℕ, ℤ, pos, ◌*ℤ◌, int_lt, Bool, List, [], ◌∷◌, Option, None, Some, if◌then◌else◌, Result, Ok, Err}
+use Rattle.std.specs.Prelude.{ℕ, pos, ◌*ℤ◌, int_lt, Bool, List, [], ◌∷◌, Option, None, Some, if◌then◌else◌, Result, Ok}
 use Rattle.integers.specs.Fraction.{Fraction}
 use Rattle.frac128.specs.Checked.{◌>>=◌}
 use Rattle.frac128.specs.declared.number.TooWide.{TooWide}

@@ -1,5 +1,5 @@
 -- The room of one element: the values that it may have while the others stay.
-use Rattle.std.specs.Prelude.{◌≡◌, ◌≢◌, ◌⊎◌, ◌↔◌, ℕ, ◌-◌, ◌+◌, ◌<◌, ℤ, pos, ◌-ℤ◌, ◌*ℤ◌, ◌<ℤ◌, List, [], ◌∷◌, set, Option, None, Some, if◌then◌else◌, nat_eq, Result, Ok, Err}
+use Rattle.std.specs.Prelude.{◌≡◌, ◌≢◌, ◌⊎◌, ◌↔◌, ℕ, ◌-◌, ◌+◌, ◌<◌, ℤ, pos, ◌-ℤ◌, ◌*ℤ◌, ◌<ℤ◌, List, [], ◌∷◌, set, Option, None, Some, if◌then◌else◌, nat_eq, Result, Err}
 use Rattle.integers.specs.Fraction.{Fraction, FractionAtMost, IsWriting, fraction_of}
 use Rattle.integers.specs.Vector.{scale}
 use Rattle.frac128.specs.Checked.{◌>>=◌, checked_difference, checked_quotient}

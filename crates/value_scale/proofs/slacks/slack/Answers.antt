@@ -1,6 +1,5 @@
-use Rattle.std.proofs.Common.{◌≡◌, ◌<◌, ◌≤◌, length, get_or, pos, sym, ap, subst, ◌∙◌, IfOk, OnOk, OnErr, arith, rules}
+use Rattle.std.proofs.Common.{◌≡◌, ◌<◌, ◌≤◌, pos, sym, subst, IfOk, OnOk, OnErr, rules}
 use Rattle.integers.specs.Fraction.{fraction_of}
-use Rattle.judgement_matrix.specs.Rows.{rows}
 use Rattle.value_scale.specs.Slack.{IsSlackOf, IsTooWideToWork}
 use Rattle.value_scale.specs.Narrowing.{from_next}
 use Rattle.value_scale.proofs.SlackLemmas.{slack_is, slack_last, fits_is, too_wide_is}
