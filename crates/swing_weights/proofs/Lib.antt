@@ -1,1 +1,3 @@
 pub mod ScoreLemmas
+pub mod ShareLemmas
+pub mod WeightLemmas

@@ -32,11 +32,11 @@ one_more : (x y d n rest : ℤ) → SameFraction (fraction_sum (fraction_product
 one_more = ring5 (λ x y d n r. (x ⊗ y ⊗ (d ⊗ n) ⊕ r ⊗ (d ⊗ n)) ⊗ (d ⊗ n) ≗ (x ⊗ y ⊕ r) ⊗ (d ⊗ n ⊗ (d ⊗ n))) refl
 
 -- nothing more
-no_more : (s : Fraction) (m : ℤ) → SameFraction s (fraction_sum s (record { num = pos 0; den = m }))
+pub no_more : (s : Fraction) (m : ℤ) → SameFraction s (fraction_sum s (record { num = pos 0; den = m }))
 no_more s m = ring3 (λ a b m. a ⊗ (b ⊗ m) ≗ (a ⊗ m ⊕ con (pos 0) ⊗ b) ⊗ b) refl s.num s.den m
 
 -- a part is added, and then the rest
-chained : (s part sum r first rest whole : Fraction) → IsFraction s → IsFraction part → IsFraction sum → IsFraction r → IsFraction first → IsFraction rest → IsFraction whole
+pub chained : (s part sum r first rest whole : Fraction) → IsFraction s → IsFraction part → IsFraction sum → IsFraction r → IsFraction first → IsFraction rest → IsFraction whole
     → SameFraction part first → SameFraction sum (fraction_sum s part) → SameFraction r (fraction_sum sum rest) → SameFraction (fraction_sum first rest) whole
     → SameFraction r (fraction_sum s whole)
 chained s part sum r first rest whole ps pp pm pr pf pt pw part_is sum_is r_is whole_is =
@@ -80,7 +80,7 @@ score_value s (f ∷ ks) (g ∷ vs) (x ∷ k) d (y ∷ v) n ps pk pv wk wv =
     (record { den_pos = wk.den_pos; same = wk.same.1 }) (record { den_pos = wv.den_pos; same = wv.same.1 }))))
 
 -- 0 and a fraction is that fraction
-from_zero : (s f : Fraction) → SameFraction s (fraction_sum (fraction_of (pos 0)) f) → SameFraction s f
+pub from_zero : (s f : Fraction) → SameFraction s (fraction_sum (fraction_of (pos 0)) f) → SameFraction s f
 from_zero s f h = combine4 (λ a b p d. a ⊗ d ≗ p ⊗ b ⇐ con (pos 1) ✶ (a ⊗ (con (pos 1) ⊗ d) ≗ (con (pos 0) ⊗ d ⊕ p ⊗ con (pos 1)) ⊗ b) ∷ []) refl s.num s.den f.num f.den h
 
 -- what holds for each writing holds of the result

@@ -39,7 +39,7 @@ over-take zero w n = refl
 over-take (suc k) [] n = refl
 over-take (suc k) (x ∷ w) n = ap (λ fs. record { num = x; den = n } ∷ fs) (over-take k w n)
 
-IsWriting-take : (k : ℕ) (fs : List Fraction) (w : List ℤ) (n : ℤ) → IsWriting fs w n → IsWriting (take k fs) (take k w) n
+pub IsWriting-take : (k : ℕ) (fs : List Fraction) (w : List ℤ) (n : ℤ) → IsWriting fs w n → IsWriting (take k fs) (take k w) n
 IsWriting-take k fs w n h = record { den_pos = h.den_pos; same = rw (over-take k w n) (SameFractions-take k (over w n) fs h.same) }
 
 -- ---- the least scale, in any writing
