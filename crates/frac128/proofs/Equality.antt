@@ -11,7 +11,7 @@ use Rattle.frac128.specs.declared.problem.Cert.{Cert}
 use Rattle.frac128.specs.declared.problem.Row.{Row}
 
 -- two tests that decide one fact each decide both
-both_Decides : (a b : Bool) (P Q : Type 0) → Decides a P → Decides b Q → Decides (a && b) (P × Q)
+pub both_Decides : (a b : Bool) (P Q : Type 0) → Decides a P → Decides b Q → Decides (a && b) (P × Q)
 both_Decides true b P Q h k = (λ e. (h.0 refl, k.0 e), λ p. k.1 p.1)
 both_Decides false b P Q h k = (λ e. absurd (grind arith), λ p. h.1 p.0)
 

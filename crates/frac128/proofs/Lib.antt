@@ -12,5 +12,6 @@ pub mod NearestLaw
 pub mod Numbers
 pub mod PrintingLemmas
 pub mod ProblemLaws
+pub mod ReaderLemmas
 pub mod ReadingLemmas
 pub mod TextLemmas

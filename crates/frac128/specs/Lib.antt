@@ -6,5 +6,6 @@ pub mod Formula
 pub mod Frac
 pub mod Problem
 pub mod Range
+pub mod Reader
 pub mod Reading
 pub mod Text

@@ -4,6 +4,8 @@ ghost use Rattle.std.specs.Prelude.{◌≡◌, ◌==◌, ◌<◌, ◌^◌, ◌�
 ghost use Rattle.std.specs.Str.Parse.{AllDigits, IsNumeral, digits_value};
 ghost use Rattle.frac128.specs.Text.{IsReading, IsTooWide, WritesNone};
 ghost use Rattle.std.specs.Char.{is_ascii_digit};
+ghost use Rattle.std.specs.Result.{result_ok};
+ghost use Rattle.frac128.specs.Reader.{read_fraction};
 ghost use Rattle.std.specs.List.{list_all, position};
 ghost use Rattle.frac128.specs.Reading.{WritesNumber, IsNumberFault, WriteQuotient, IsQuotientFault, IsReadingFault, IsSizesFault, WritesSigned, WritesSizes, slash};
 
@@ -23,6 +25,7 @@ pub fn read_frac(bytes: &[u8]) -> Result<Frac, FracFault>
     ensures ok { IfOk result (IsReading bytes.now) }
     ensures bad_number { IsErrOf result FracFault.BadNumber ↔ WritesNone bytes.now }
     ensures too_wide { IsErrOf result FracFault.TooWide ↔ IsTooWide bytes.now }
+    ensures value { result_ok result ≡ read_fraction bytes.now }
 {
     reduced(bytes)
 }

@@ -81,6 +81,3 @@ mul_nonneg a b p q = grind (arith, ints)
 pub mul_pos : (a b : ℤ) → pos 0 <ℤ a → pos 0 <ℤ b → pos 0 <ℤ (a *ℤ b)
 mul_pos a b p q = grind (arith, common_steps)
 
--- a square is not negative
-pub square_nonneg : (a : ℤ) → pos 0 ≤ℤ (a *ℤ a)
-square_nonneg a = grind (arith, ints)

@@ -1,14 +1,13 @@
 -- The lexicographic order of lists of fractions: an order, blind to how the fractions are written, strict under positive steps.
 use lib.IntN.{*ℤ_comm}
 use Rattle.std.specs.Int.Signed.{lt_z_yes}
-use Rattle.std.proofs.lemmas.List.Elements.{All-nil, All-cons, All-head, All-tail}
+use Rattle.std.proofs.lemmas.List.Elements.{All-cons, All-head, All-tail}
 use Rattle.std.proofs.Common.{◌≡◌, ◌⊎◌, inl, inr, ◌↔◌, ◌≤◌, length, List, [], ◌∷◌, ℤ, pos, ◌+ℤ◌, ◌-ℤ◌, ◌*ℤ◌, ◌<ℤ◌, refl, sym, ap, subst, ◌∙◌, arith}
 use Rattle.integers.specs.Fraction.{Fraction, IsFraction, SameFraction, FractionLess, AreFractions, over, SameFractions}
 use Rattle.integers.specs.Lexicographic.{IsLexPositive, LexLess}
-use Rattle.integers.specs.Vector.{row_step, AreZero}
+use Rattle.integers.specs.Vector.{row_step}
 use Rattle.integers.proofs.Fractions.{length-over, SameFraction-trans, IsBelow_irrefl, FractionLess-trans, FractionLess-same_left, FractionLess-same_right, SameFractions-sym}
 use Rattle.integers.proofs.Laws.{lin}
-use Rattle.integers.proofs.Zeros.{AreZero-cons, AreZero-head, AreZero-tail}
 use Rattle.integers.proofs.Order.{mul_pos, fraction_cases}
 use Rattle.integers.proofs.Ring.{con, ◌⊕◌, ◌⊗◌, ◌≗◌, ◌≺◌, ◌✶◌, ◌⇐◌, combine5}
 
@@ -150,28 +149,6 @@ LexLess-differences fs gs l = (to fs gs l, from fs gs l)
     from (f ∷ fs) [] l h = absurd h
     from (f ∷ fs) (g ∷ gs) l (inl h) = inl (omega (arith, lin, *ℤ_comm f.num g.den, *ℤ_comm g.num f.den))
     from (f ∷ fs) (g ∷ gs) l (inr h) = let e = h.0 in inr (omega (arith, lin, *ℤ_comm f.num g.den, *ℤ_comm g.num f.den), from fs gs (omega arith) h.1)
-
--- lists of one length: the same exactly where the differences are 0
-pub SameFractions-differences : (fs gs : List Fraction) → length fs ≡ length gs → SameFractions fs gs ↔ AreZero (differences fs gs)
-SameFractions-differences fs gs l = (to fs gs, from fs gs l)
-  where
-    to : (fs gs : List Fraction) → SameFractions fs gs → AreZero (differences fs gs)
-    to [] gs h = All-nil (λ x. x ≡ pos 0)
-    to (f ∷ fs) [] h = absurd h
-    to (f ∷ fs) (g ∷ gs) h =
-        let e = h.0 in AreZero-cons (f.den *ℤ g.num -ℤ g.den *ℤ f.num) (differences fs gs)
-        (omega (arith, lin, *ℤ_comm f.num g.den, *ℤ_comm g.num f.den)) (to fs gs h.1)
-
-    from : (fs gs : List Fraction) → length fs ≡ length gs → AreZero (differences fs gs) → SameFractions fs gs
-    from [] [] l z = tt
-    from [] (g ∷ gs) l z = absurd (omega arith)
-    from (f ∷ fs) [] l z = absurd (omega arith)
-    from (f ∷ fs) (g ∷ gs) l z =
-        let e = AreZero-head (f.den *ℤ g.num -ℤ g.den *ℤ f.num) (differences fs gs) z in (
-          omega (arith, lin, *ℤ_comm f.num g.den, *ℤ_comm g.num f.den),
-          from fs gs (omega arith)
-              (AreZero-tail (f.den *ℤ g.num -ℤ g.den *ℤ f.num) (differences fs gs) z),
-        )
 
 -- over one denominator each, the differences are a row step
 pub differences-over : (xs ys : List ℤ) (d e : ℤ) → length xs ≡ length ys → differences (over xs d) (over ys e) ≡ row_step d e ys xs

@@ -3,26 +3,14 @@ use lib.IntN.{zero-*ℤ}
 use Rattle.std.proofs.lemmas.Int.{by_lt_z}
 use Rattle.std.proofs.Common.{◌≡◌, ◌⊎◌, ◌↔◌, inl, inr, ℤ, pos, ◌*ℤ◌, ◌≤ℤ◌, ◌<ℤ◌, [], ◌∷◌, refl, sym, ap, subst, subst₂, ◌∙◌, arith}
 use Rattle.integers.proofs.Laws.{lin}
-use Rattle.integers.proofs.Ring.{neg, ◌⊗◌, ◌≗◌, ◌≼◌, ◌≺◌, ◌✶◌, ◌⇐◌, combine3, combine4, combine5, combine6}
-pub use Rattle.integers.proofs.Laws.{mul_nonneg, mul_pos, square_nonneg}
+use Rattle.integers.proofs.Ring.{neg, ◌⊗◌, ◌≗◌, ◌≼◌, ◌≺◌, ◌✶◌, ◌⇐◌, combine3, combine5, combine6}
+pub use Rattle.integers.proofs.Laws.{mul_nonneg, mul_pos}
 
 -- ---- chains
 
 -- at most, and at most again
 pub le_trans : (a b c : ℤ) → a ≤ℤ b → b ≤ℤ c → a ≤ℤ c
 le_trans a b c p q = omega (arith, lin)
-
--- at most, and below
-pub lt_of_le_of_lt : (a b c : ℤ) → a ≤ℤ b → b <ℤ c → a <ℤ c
-lt_of_le_of_lt a b c p q = omega (arith, lin)
-
--- below, and at most
-pub lt_of_lt_of_le : (a b c : ℤ) → a <ℤ b → b ≤ℤ c → a <ℤ c
-lt_of_lt_of_le a b c p q = omega (arith, lin)
-
--- below, and below again
-pub lt_trans : (a b c : ℤ) → a <ℤ b → b <ℤ c → a <ℤ c
-lt_trans a b c p q = omega (arith, lin)
 
 -- each at most the other
 pub le_antisymm : (a b : ℤ) → a ≤ℤ b → b ≤ℤ a → a ≡ b
@@ -45,18 +33,6 @@ mul_le a b c = combine3 (λ a b c. a ⊗ c ≼ b ⊗ c ⇐ c ✶ (a ≼ b) ∷ [
 -- both sides of < times a positive number
 pub mul_lt : (a b c : ℤ) → pos 0 <ℤ c → a <ℤ b → (a *ℤ c) <ℤ (b *ℤ c)
 mul_lt a b c = combine3 (λ a b c. a ⊗ c ≺ b ⊗ c ⇐ c ✶ (a ≺ b) ∷ []) refl a b c
-
--- both sides of ≤ times a number that is not positive: the sides change places
-pub mul_le_neg : (a b c : ℤ) → c ≤ℤ pos 0 → a ≤ℤ b → (b *ℤ c) ≤ℤ (a *ℤ c)
-mul_le_neg a b c p h = combine3 (λ a b c. b ⊗ c ≼ a ⊗ c ⇐ neg c ✶ (a ≼ b) ∷ []) refl a b c (omega (arith, lin)) h
-
--- both sides of < times a negative number: the sides change places
-pub mul_lt_neg : (a b c : ℤ) → c <ℤ pos 0 → a <ℤ b → (b *ℤ c) <ℤ (a *ℤ c)
-mul_lt_neg a b c p h = combine3 (λ a b c. b ⊗ c ≺ a ⊗ c ⇐ neg c ✶ (a ≺ b) ∷ []) refl a b c (omega (arith, lin)) h
-
--- the products of two facts, where the left sides are not negative
-pub mul_le_mul : (a b c d : ℤ) → pos 0 ≤ℤ a → pos 0 ≤ℤ d → a ≤ℤ b → c ≤ℤ d → (a *ℤ c) ≤ℤ (b *ℤ d)
-mul_le_mul a b c d p q h k = combine4 (λ a b c d. a ⊗ c ≼ b ⊗ d ⇐ d ✶ (a ≼ b) ∷ a ✶ (c ≼ d) ∷ []) refl a b c d q h p k
 
 -- a positive factor is cancelled from <
 pub cancel_lt : (a b c : ℤ) → pos 0 <ℤ c → (a *ℤ c) <ℤ (b *ℤ c) → a <ℤ b
@@ -138,10 +114,6 @@ fraction_eq_eq a b c d e f pb pd pf h k =
 -- of two fractions one is below the other or they are equal
 pub fraction_cases : (a b c d : ℤ) → (a *ℤ d) <ℤ (c *ℤ b) ⊎ (a *ℤ d ≡ c *ℤ b) ⊎ (c *ℤ b) <ℤ (a *ℤ d)
 fraction_cases a b c d = lt_cases (a *ℤ d) (c *ℤ b)
-
--- over one denominator the numerators compare
-pub fraction_lt_same_den : (a b d : ℤ) → pos 0 <ℤ d → a <ℤ b ↔ (a *ℤ d) <ℤ (b *ℤ d)
-fraction_lt_same_den a b d p = (λ h. mul_lt a b d p h, λ h. cancel_lt a b d p h)
 
 -- ---- a common divisor k of both parts: a = c k and b = d k
 

@@ -1,12 +1,12 @@
 -- The rows of a matrix are rows of its elements.
-use Rattle.std.proofs.Common.{◌≡◌, ℕ, ◌-◌, ℤ, Bool, true, List, ◌∷◌, map, filter, subst, arith}
+use Rattle.std.proofs.Common.{◌≡◌, ℕ, ◌-◌, Bool, true, map, filter, arith}
 use Rattle.std.specs.Prelude.{nat_lt}
 use Rattle.std.specs.List.{AllByRecursion, range_with_len}
 use Rattle.judgement_matrix.specs.Matrix.{Judgements, IsPair, pairs, range_at}
 use Rattle.judgement_matrix.specs.Rows.{lower_rows, zero_rows, cross_rows, order_rows, rows, IsTagAmong}
 use Rattle.judgement_matrix.specs.declared.tag.Tag.{Tag}
 use Rattle.judgement_matrix.specs.declared.tag.Tag.TheVariants.{Lower, Zero, Cross, Order}
-use Rattle.judgement_matrix.proofs.EveryLemmas.{every-append, every-append_right, every-map, every-filter, every-flat_map, every-pairs, every-range, every_weaker}
+use Rattle.judgement_matrix.proofs.EveryLemmas.{every-append, every-map, every-filter, every-flat_map, every-pairs, every-range, every_weaker}
 
 -- what holds of each pair holds of those that pass a test
 every-some_pairs : (n : ℕ) (P : ℕ × ℕ → Type 0) (test : ℕ × ℕ → Bool) → ((p q : ℕ) → IsPair n p q → P (p, q)) → AllByRecursion P (filter test (pairs n))

@@ -1,15 +1,12 @@
 -- Matrices with one element more or less.
-use Rattle.std.proofs.Common.{◌≡◌, ℕ, zero, suc, ◌+◌, ◌-◌, ◌<◌, ◌≤◌, Bool, true, false, List, [], ◌∷◌, ◌++◌, length, map, take, drop, get_or, set, Option, Some, None, All, ◌⊎◌, inl, inr, refl, sym, ap, ap₂, subst, ◌∙◌, arith, add-one}
-use Rattle.std.specs.Prelude.{nat_lt, ◌==◌}
-use Rattle.std.specs.List.{flat_map}
+use Rattle.std.proofs.Common.{◌≡◌, ℕ, zero, suc, ◌+◌, ◌-◌, ◌<◌, ◌≤◌, Bool, false, List, [], ◌∷◌, ◌++◌, length, map, take, drop, get_or, set, Option, Some, None, All, ◌⊎◌, inl, inr, refl, sym, ap, ap₂, subst, ◌∙◌, arith, add-one}
 use Rattle.std.proofs.lemmas.Bool.Decides.{nat_tests}
-use Rattle.std.proofs.lemmas.List.{length-map, get_or-map, get_or_past, get_or_default, length-set, length-append, length-take, length-drop}
+use Rattle.std.proofs.lemmas.List.{length-map, get_or-map, get_or_past, get_or_default, length-append, length-take, length-drop}
 use Rattle.std.proofs.lemmas.Bool.{cases_lt}
-use Rattle.std.proofs.lemmas.List.Concat.{flat_map-append}
-use Rattle.std.proofs.lemmas.List.Elements.{All-map, All-set}
-use Rattle.judgement_matrix.specs.Range.{Bounds, IsRange, full}
-use Rattle.judgement_matrix.specs.Matrix.{Judgements, IsCell, IsMatrix, IsPair, pairs, pairs_before, place, cell_at, cleared}
-use Rattle.judgement_matrix.specs.Change.{grown_from, old_cell, grown_cell, grown, without_from, left_cell, without}
+use Rattle.std.proofs.lemmas.List.Elements.{All-map}
+use Rattle.judgement_matrix.specs.Range.{Bounds, full}
+use Rattle.judgement_matrix.specs.Matrix.{Judgements, IsCell, IsMatrix, IsPair, pairs, pairs_before, place, cell_at}
+use Rattle.judgement_matrix.specs.Change.{old_cell, grown_cell, grown, without_from, left_cell, without}
 use Rattle.judgement_matrix.specs.declared.matrix.TheConstants.{LIMIT}
 use Rattle.judgement_matrix.proofs.PlaceLemmas.{place-below, place-at, get_or-place}
 

@@ -1,11 +1,9 @@
 -- What a judgement changes.
-use Rattle.std.proofs.Common.{Bool, ◌≡◌, ℕ, ◌≤◌, refl, ◌<◌, true, false, length, get_or, sym, ap, ◌∙◌, arith}
+use Rattle.std.proofs.Common.{Bool, ◌≡◌, ℕ, ◌<◌, false, length, get_or, sym, ap, ◌∙◌}
 use Rattle.std.specs.Prelude.{slice_set}
-use Rattle.std.proofs.lemmas.List.{get_or-set_same, get_or-set_other, get_or-replicate, length-replicate, length-set}
-use Rattle.std.proofs.lemmas.List.Elements.{All-replicate, All-set}
-use Rattle.judgement_matrix.specs.Range.{Bounds, IsRange, full}
-use Rattle.judgement_matrix.specs.Matrix.{Judgements, IsCell, IsMatrix, IsPair, pairs, place, cell_at, unjudged, judged}
-use Rattle.judgement_matrix.specs.declared.matrix.TheConstants.{LIMIT}
+use Rattle.std.proofs.lemmas.List.{get_or-set_same, get_or-set_other, get_or-replicate}
+use Rattle.judgement_matrix.specs.Range.{Bounds, full}
+use Rattle.judgement_matrix.specs.Matrix.{Judgements, IsPair, pairs, place, cell_at, unjudged}
 use Rattle.judgement_matrix.proofs.PlaceLemmas.{get_or-place, place-below}
 
 -- two pairs at one place are one pair

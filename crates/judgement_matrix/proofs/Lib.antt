@@ -1,4 +1,5 @@
 pub mod PlaceLemmas
+pub mod Walks
 pub mod WalkLemmas
 pub mod EveryLemmas
 pub mod FindLemmas

@@ -1,22 +1,20 @@
 -- Scales: two writings of one, which is smaller, the least of a matrix.
-use Rattle.std.proofs.Common.{◌≡◌, ℕ, zero, suc, ◌+◌, ◌-◌, ◌<◌, ◌≤◌, ℤ, pos, ◌+ℤ◌, ◌-ℤ◌, ◌*ℤ◌, ◌≤ℤ◌, ◌<ℤ◌, List, [], ◌∷◌, ◌++◌, length, get_or, drop, replicate, ◌⊎◌, inl, inr, refl, sym, ap, ap₂, subst, ◌∙◌, arith}
+use Rattle.std.proofs.Common.{◌≡◌, ℕ, zero, suc, ◌-◌, ℤ, pos, ◌-ℤ◌, ◌*ℤ◌, ◌≤ℤ◌, ◌<ℤ◌, List, [], ◌∷◌, length, get_or, drop, replicate, ◌⊎◌, inl, inr, refl, sym, ap, ap₂, ◌∙◌, arith}
 use mathlib.Core.List.{reverse, reverse_aux}
 use Rattle.std.specs.Int.Signed.{lt_z_yes}
 use Rattle.std.proofs.lemmas.Int.{ints}
 use Rattle.std.proofs.lemmas.List.{length-replicate, length-reverse, get_or-reverse, reverse-reverse}
-use Rattle.integers.specs.Fraction.{Fraction, AreFractions, over, SameFractions}
-use Rattle.integers.specs.Lexicographic.{LexLess}
+use Rattle.integers.specs.Fraction.{over, SameFractions}
 use Rattle.integers.specs.Vector.{scale}
-use Rattle.integers.proofs.Fractions.{SameFractions-sym, SameFractions-length, SameFractions-over, SameFractions-refl, AreFractions-over}
+use Rattle.integers.proofs.Fractions.{SameFractions-length, SameFractions-over, AreFractions-over}
 use Rattle.integers.proofs.LexOrder.{LexLess_irrefl, LexLess-trans, LexLess-cases, LexLess-same}
 use Rattle.integers.proofs.Order.{cancel_le, le_of_lt, zero_of_mul}
-use Rattle.integers.proofs.Ring.{con, neg, ◌⊕◌, ◌⊖◌, ◌⊗◌, ◌≗◌, ◌≼◌, ◌✶◌, ◌⇐◌, combine4, combine5, combine6, ring1}
+use Rattle.integers.proofs.Ring.{con, neg, ◌⊖◌, ◌⊗◌, ◌≗◌, ◌≼◌, ◌✶◌, ◌⇐◌, combine4, combine5, combine6, ring1}
 use Rattle.integers.proofs.VectorLaws.{length-scale}
 use Rattle.integers.proofs.Fractions.{length-over}
 use Rattle.integers.proofs.Zeros.{get_or-zeros}
-use Rattle.judgement_matrix.specs.Range.{full}
 use Rattle.judgement_matrix.specs.Matrix.{Judgements, IsPair, range_at, unjudged}
-use Rattle.judgement_matrix.specs.Scale.{value_at, difference, IsScale, IsMetInUnit, IsMetBy}
+use Rattle.judgement_matrix.specs.Scale.{value_at, difference, IsScale, IsMetBy}
 use Rattle.judgement_matrix.specs.Least.{order_key, IsSmaller, IsLeastScale}
 use Rattle.judgement_matrix.proofs.FitLemmas.{at_least_zero}
 use Rattle.judgement_matrix.proofs.JudgedLemmas.{cell_at-unjudged}

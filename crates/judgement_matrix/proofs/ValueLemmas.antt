@@ -1,23 +1,22 @@
 -- What the values of a scale, as fractions, say of the constraints of its whole numbers.
-use Rattle.std.proofs.Common.{◌≡◌, ℕ, zero, suc, ◌+◌, ◌-◌, ◌<◌, ◌≤◌, ℤ, pos, ◌-ℤ◌, ◌*ℤ◌, ◌≤ℤ◌, ◌<ℤ◌, Bool, true, false, List, [], ◌∷◌, ◌++◌, length, get_or, Option, Some, None, Result, Ok, Err, All, ◌⊎◌, inl, inr, ◌↔◌, refl, sym, ap, subst, ◌∙◌, arith}
+use Rattle.std.proofs.Common.{◌≡◌, ℕ, zero, suc, ◌+◌, ◌-◌, ◌<◌, ℤ, pos, ◌-ℤ◌, ◌*ℤ◌, ◌≤ℤ◌, ◌<ℤ◌, Bool, true, false, List, [], ◌∷◌, ◌++◌, get_or, Option, Some, None, Result, Ok, Err, inl, inr, ◌↔◌, refl, sym, ap, subst, ◌∙◌, arith}
 use Rattle.std.specs.Prelude.{int_lt, nat_lt}
 use Rattle.std.specs.Result.{IsErr}
-use Rattle.std.specs.Int.Signed.{lt_z_yes, le_z_yes}
+use Rattle.std.specs.Int.Signed.{lt_z_yes}
 use Rattle.std.specs.List.{AllByRecursion}
 use Rattle.std.proofs.lemmas.Int.{ints}
 use Rattle.std.proofs.lemmas.Bool.Decides.{nat_tests}
 use Rattle.std.proofs.lemmas.List.Elements.{All-head, All-tail}
-use Rattle.integers.specs.Fraction.{Fraction, IsFraction, SameFraction, AreFractions, over, SameFractions, IsWriting, common_nums, common_den, fraction_difference}
-use Rattle.integers.proofs.Laws.{lin}
+use Rattle.integers.specs.Fraction.{Fraction, IsFraction, AreFractions, over, SameFractions, IsWriting, common_nums, common_den, fraction_difference}
 use Rattle.integers.proofs.Order.{cancel_eq, cancel_le, cancel_lt, mul_pos, zero_of_mul}
-use Rattle.integers.proofs.Ring.{con, neg, ◌⊕◌, ◌⊖◌, ◌⊗◌, ◌≗◌, ◌≼◌, ◌≺◌, ◌✶◌, ◌⇐◌, combine4, combine5, combine9, ring1}
+use Rattle.integers.proofs.Ring.{con, neg, ◌⊖◌, ◌⊗◌, ◌≗◌, ◌≼◌, ◌≺◌, ◌✶◌, ◌⇐◌, combine4, combine5, combine9, ring1}
 use Rattle.integers.proofs.Writings.{IsWriting-length, common_writing}
 use Rattle.frac128.specs.Checked.{◌>>=◌, checked_difference, DifferenceFits, IsExact}
 use Rattle.frac128.specs.declared.number.TooWide.{TooWide}
 use Rattle.frac128.proofs.Checked.{checked_difference-exact}
 use Rattle.judgement_matrix.specs.Matrix.{Judgements, range_at}
 use Rattle.judgement_matrix.specs.Scale.{value_at, difference, IsScale, IsMetBy}
-use Rattle.judgement_matrix.specs.Rows.{rows, RowHolds, IsFit}
+use Rattle.judgement_matrix.specs.Rows.{rows, RowHolds}
 use Rattle.judgement_matrix.specs.Values.{fraction_at, AreValues, checked_gap, constraint_value, HasTooWide, IsAnswerOver, IsAnswer}
 use Rattle.judgement_matrix.specs.Walk.{fails_at, row_fails, fails_where, from_row, first_stop}
 use Rattle.judgement_matrix.specs.declared.tag.Tag.{Tag}

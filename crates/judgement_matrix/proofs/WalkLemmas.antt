@@ -1,7 +1,6 @@
 -- How a walk over the pairs goes on.
-use Rattle.std.proofs.Common.{◌≡◌, ℕ, zero, suc, ◌+◌, ◌-◌, ◌<◌, ◌≤◌, [], ◌∷◌, refl, sym, ap, arith}
+use Rattle.std.proofs.Common.{◌≡◌, ℕ, zero, suc, ◌+◌, ◌-◌, ◌<◌, ◌≤◌, ◌∷◌, refl, ap, arith}
 use Rattle.std.specs.List.{flat_map, range_with_len}
-use Rattle.judgement_matrix.specs.Matrix.{pairs}
 use Rattle.judgement_matrix.specs.Walk.{pairs_from}
 use Rattle.judgement_matrix.proofs.PlaceLemmas.{row}
 

@@ -9,6 +9,10 @@ pub record Judgements : Type 0 where
   pub size : ℕ
   pub cells : List (Bounds × Bool)
 
+-- a matrix may have n elements
+abbrev pub IsSize : ℕ → Type 0
+IsSize n = (1 ≤ n) × (n ≤ LIMIT)
+
 -- p stands above q among n elements
 abbrev pub IsPair : ℕ → ℕ → ℕ → Type 0
 IsPair n p q = (1 ≤ p) × (p < q) × (q ≤ n)

@@ -1,8 +1,8 @@
 -- The test of equality of matrices, and that it says whether their judgements are the same.
-use Rattle.std.specs.Prelude.{◌≡◌, Bool, ◌==◌, List}
+use Rattle.std.specs.Prelude.{◌≡◌, Bool, ◌==◌}
 use Rattle.std.specs.Bool.{Decides, beq}
 use Rattle.std.specs.Ordering.{eq_of_both, on}
-use Rattle.std.specs.Cmp.{IsPartialEquivalence, IsEquivalence, partial_equiv_from_equiv, decided, booleans_Decides}
+use Rattle.std.specs.Cmp.{IsEquivalence, decided, booleans_Decides}
 use Rattle.std.specs.Cmp.Lexicographic.{pointwise, pointwise_decides}
 use Rattle.std.proofs.Common.{ap}
 use Rattle.std.proofs.lemmas.Bool.Decides.{Decides-eqb, Decides-and, Decides-like}

@@ -1,10 +1,10 @@
 -- A walk over the pairs, and the rows that a scale fails.
-use Rattle.std.specs.Prelude.{ℕ, ◌+◌, ◌-◌, ◌<◌, ◌≤◌, ℤ, pos, ◌-ℤ◌, ◌*ℤ◌, int_lt, Bool, true, false, if◌then◌else◌, List, [], ◌∷◌, ◌++◌, map, Option, Some, None, Result, Ok, Err}
-use Rattle.std.specs.List.{flat_map, range_with_len, AllByRecursion}
+use Rattle.std.specs.Prelude.{ℕ, ◌+◌, ◌-◌, ◌<◌, ◌≤◌, pos, ◌-ℤ◌, ◌*ℤ◌, int_lt, Bool, true, false, if◌then◌else◌, List, [], ◌∷◌, ◌++◌, map, Option, Some, None, Result, Ok, Err}
+use Rattle.std.specs.List.{flat_map, range_with_len}
 use Rattle.integers.specs.Fraction.{Fraction}
 use Rattle.frac128.specs.Checked.{◌>>=◌}
 use Rattle.frac128.specs.declared.number.TooWide.{TooWide}
-use Rattle.judgement_matrix.specs.Matrix.{Judgements, IsPair, range_at}
+use Rattle.judgement_matrix.specs.Matrix.{Judgements, range_at}
 use Rattle.judgement_matrix.specs.Values.{constraint_value}
 pub use Rattle.judgement_matrix.specs.Rows.{lower_rows_of, zero_rows_of, cross_rows_under, cross_rows_of}
 use Rattle.judgement_matrix.specs.declared.matrix.TheConstants.{LIMIT}
@@ -23,10 +23,6 @@ pub record IsCursor (n p q : ℕ) : Type 0 where
   pub most : n ≤ LIMIT
   pub within : q ≤ n + 1
   pub past : n < q → n ≤ p
-
--- each of these is a pair of n elements
-abbrev pub AllPairsOf : ℕ → List (ℕ × ℕ) → Type 0
-AllPairsOf n ps = AllByRecursion (λ pair. IsPair n pair.0 pair.1) ps
 
 -- whether the value that a constraint compares fails it
 abbrev pub fails_at : Judgements → Tag → Fraction → Bool

@@ -1,7 +1,7 @@
 //! Matrices of judgements.
 ghost use Rattle.std.specs.Prelude.{◌≡◌, ℕ, true, ◌-◌, ◌<◌, ◌≤◌, false, length, IfOk, OnOk, OnErr, ◌+◌};
 ghost use Rattle.judgement_matrix.specs.Range.{IsRange, full};
-ghost use Rattle.judgement_matrix.specs.Matrix.{IsMatrix, IsPair, pairs, pairs_before, place, cell_at, unjudged, judged, cleared};
+ghost use Rattle.judgement_matrix.specs.Matrix.{IsMatrix, IsSize, IsPair, pairs, pairs_before, place, cell_at, unjudged, judged, cleared};
 ghost use Rattle.judgement_matrix.specs.Change.{grown_from, grown, grown_cell, without_from, without};
 ghost use Rattle.std.specs.Cmp.{partial_equiv_from_equiv};
 ghost use Rattle.judgement_matrix.specs.Same.{same_judgements, same_judgements_are_equivalent};
@@ -36,8 +36,7 @@ impl Model for Matrix {
 
 // How many pairs `size` elements have.
 fn pair_count(size: usize) -> usize
-    requires least { 1 ≤ size }
-    requires most { size ≤ LIMIT }
+    requires { IsSize size }
     ensures value { result ≡ length (pairs size) }
     ensures before { result ≡ pairs_before size (size - 1) }
     ensures most { result ≤ 276 }
@@ -98,8 +97,7 @@ fn drop_element(cells: &mut Vec<(Range, bool)>, size: u8, p: usize)
 impl Matrix {
     /// A matrix of `n` elements in which nothing is judged.
     pub fn new(alloc: Global, n: usize) -> Result<Matrix, NoMemory>
-        requires least { 1 ≤ n }
-        requires most { n ≤ LIMIT }
+        requires { IsSize n }
         ensures { IfOk result (λ m. m ≡ unjudged n) }
     {
         let cells = vec![in alloc; (Range::full(), false); pair_count(n)]?;

@@ -1,8 +1,7 @@
 //! A walk over the pairs of elements, in pair order.
 ghost use Rattle.std.specs.Prelude.{◌≡◌, ◌≤◌};
 ghost use Rattle.std.specs.Iterator.{YieldsFirst, item_count};
-ghost use Rattle.judgement_matrix.specs.Matrix.{pairs};
-ghost use Rattle.judgement_matrix.specs.declared.matrix.TheConstants.{LIMIT};
+ghost use Rattle.judgement_matrix.specs.Matrix.{IsSize, pairs};
 
 use std::marker::Model;
 
@@ -28,8 +27,7 @@ impl Model for Pairs {
 impl Pairs {
     /// The pairs of `size` elements.
     pub(crate) fn of(size: u8) -> Pairs
-        requires least { 1 ≤ size }
-        requires most { size ≤ LIMIT }
+        requires { IsSize size }
         ensures { result ≡ pairs size }
     {
         Pairs {

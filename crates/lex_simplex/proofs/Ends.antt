@@ -1,3 +1,4 @@
+pub mod Same
 pub mod Empty
 pub mod Optimal
 pub mod OptimalCertificate

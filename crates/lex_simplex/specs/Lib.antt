@@ -1,3 +1,4 @@
+pub mod Same
 pub mod Answer
 pub mod Cells
 pub mod Columns

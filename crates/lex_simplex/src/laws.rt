@@ -9,9 +9,10 @@ ghost use Rattle.lex_simplex.specs.Equations.{IsTableauOf};
 ghost use Rattle.lex_simplex.specs.Pivot.{IsLeaving, IsEntering};
 ghost use Rattle.lex_simplex.specs.Tableau.{TableRow, Tableau, start, row_of, entry, values};
 ghost use Rattle.lex_simplex.specs.Turn.{IsRun, Reaches, ratios, leaving, entering};
-ghost use Rattle.std.specs.Prelude.{◌≡◌, ◌≢◌, ◌↔◌, ℕ, suc, ◌+◌, ◌<◌, ◌<ℤ◌, ◌≤ℤ◌, length, get_or, pos, All, AllPairs, Some as SomePlace, None as NoPlace, Result as Ended};
+ghost use Rattle.std.specs.Prelude.{◌≡◌, ◌≢◌, ◌↔◌, ℕ, suc, ◌+◌, ◌<◌, ◌<ℤ◌, ◌≤ℤ◌, length, get_or, pos, All, AllPairs, IsTrue, Some as SomePlace, None as NoPlace, Result as Ended};
 
 use crate::end::{End, PivotFault};
+use crate::outcome::Outcome;
 use frac128::problem::Problem;
 
 /// States that turns keep what a tableau says of its problem: each row's equation at each point,
@@ -85,4 +86,11 @@ pub fn run_is_one(problem: &Problem)
 {
     // For the prover alone: the value is a problem.
     problem.vars();
+}
+
+/// Whether two outcomes are equal: exactly where they are one.
+pub fn are_equal_outcomes(a: &Outcome, b: &Outcome) -> bool
+    ensures { IsTrue result ↔ (a.now ≡ b.now) }
+{
+    a == b
 }

@@ -37,15 +37,6 @@ Put-append a None (Some z) xs ys p q = absurd q
 Put-append None (Some y) (Some z) xs ys p q = absurd p
 Put-append (Some x) (Some y) (Some z) xs ys p q = q ∙ ap (λ l. l ++ ys) p ∙ append_assoc x xs ys
 
--- a count that rose and then did not fall has risen
-pub Rose-later : (a b c : ℕ) → a ≤ b → Rose a b → b ≤ c → Rose a c
-Rose-later a b c low (inl less) le = inl (omega arith)
-Rose-later a b c low (inr top) le = at (eq-or-lt_of_le le)
-  where
-    at : (b ≡ c) ⊎ (b < c) → Rose a c
-    at (inl same) = inr (omega arith)
-    at (inr more) = inl (omega arith)
-
 -- a count that did not fall and then rose has risen
 pub Rose-earlier : (a b c : ℕ) → a ≤ b → Rose b c → Rose a c
 Rose-earlier a b c le (inl less) = inl (omega arith)

@@ -1,5 +1,4 @@
 use Rattle.std.proofs.Common.{true}
-use Rattle.judgement_matrix.specs.Range.{full}
 use Rattle.judgement_matrix.proofs.JudgedLemmas.{cell_at-set_here, cell_at-set_other}
 use Rattle.judgement_matrix.proofs.laws.one_pair_judged.Goals as goal
 

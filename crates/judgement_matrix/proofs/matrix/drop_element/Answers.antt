@@ -1,10 +1,8 @@
-use Rattle.std.proofs.Common.{◌≡◌, ◌+◌, ◌-◌, ◌<◌, ◌≤◌, Bool, ◌∷◌, drop, get_or, length, ◌∙◌, refl, rules, sym, ap, arith, add-one}
-use Rattle.judgement_matrix.specs.Range.{Bounds}
-use Rattle.judgement_matrix.specs.Matrix.{Judgements, IsPair, pairs, place}
+use Rattle.std.proofs.Common.{◌≡◌, ◌-◌, ◌<◌, drop, length, ◌∙◌, refl, rules, sym, ap, arith, add-one}
+use Rattle.judgement_matrix.specs.Matrix.{IsPair, pairs, place}
 use Rattle.judgement_matrix.specs.Change.{left_cell, without_from}
 use Rattle.judgement_matrix.proofs.EveryLemmas.{every-pairs}
 use Rattle.judgement_matrix.proofs.ChangeLemmas.{drop-next, moved_in_bounds, moved_next, moved_all}
-use Rattle.judgement_matrix.proofs.PlaceLemmas.{place-at}
 use Rattle.judgement_matrix.proofs.matrix.drop_element.Goals as goal
 
 pub loop-x-init : goal.loop-x-init

@@ -1,7 +1,7 @@
 use Rattle.std.proofs.Common.{◌≡◌, ◌-◌, ◌≤◌, length, ◌++◌, map, take, drop}
 use Rattle.judgement_matrix.specs.Matrix.{pairs}
 use Rattle.judgement_matrix.specs.Change.{left_cell}
-use Rattle.judgement_matrix.specs.Walk.{AllPairsOf}
+use Rattle.judgement_matrix.proofs.Walks.{AllPairsOf}
 use Rattle.judgement_matrix.proofs.matrix.drop_element.Given as goal
 
 abbrev pub invariant-loop-x : goal.invariant-loop-x

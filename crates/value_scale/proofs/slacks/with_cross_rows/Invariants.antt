@@ -1,7 +1,7 @@
 use Rattle.std.proofs.Common.{◌≡◌}
 use Rattle.judgement_matrix.specs.Matrix.{pairs}
 use Rattle.judgement_matrix.specs.Rows.{cross_rows, cross_rows_of}
-use Rattle.judgement_matrix.specs.Walk.{AllPairsOf}
+use Rattle.judgement_matrix.proofs.Walks.{AllPairsOf}
 use Rattle.value_scale.specs.Narrowing.{with_rows}
 use Rattle.value_scale.proofs.slacks.with_cross_rows.Given as goal
 

@@ -1,6 +1,6 @@
 use Rattle.std.proofs.Common.{◌≡◌}
 use Rattle.judgement_matrix.specs.Rows.{zero_rows, zero_rows_of}
-use Rattle.judgement_matrix.specs.Walk.{AllPairsOf}
+use Rattle.judgement_matrix.proofs.Walks.{AllPairsOf}
 use Rattle.value_scale.specs.Narrowing.{with_rows}
 use Rattle.value_scale.proofs.slacks.with_zero_rows.Given as goal
 

@@ -1,4 +1,4 @@
-use Rattle.std.proofs.Common.{◌≡◌, ◌-◌, ◌<◌, Ok, sym, ap, ◌∙◌, rules, arith}
+use Rattle.std.proofs.Common.{◌≡◌, ◌<◌, Ok, ap, ◌∙◌, rules}
 use Rattle.frac128.specs.Checked.{checked_difference}
 use Rattle.judgement_matrix.specs.Matrix.{cell_at, range_at}
 use Rattle.judgement_matrix.specs.Values.{checked_gap}

@@ -1,7 +1,8 @@
 use Rattle.std.proofs.Common.{◌≡◌}
 use Rattle.judgement_matrix.specs.Matrix.{pairs}
 use Rattle.judgement_matrix.specs.Rows.{cross_rows_under}
-use Rattle.judgement_matrix.specs.Walk.{AllPairsOf, row_fails, first_stop}
+use Rattle.judgement_matrix.specs.Walk.{row_fails, first_stop}
+use Rattle.judgement_matrix.proofs.Walks.{AllPairsOf}
 use Rattle.judgement_matrix.proofs.matrix.Matrix.first_cross_under.Given as goal
 
 abbrev pub invariant-loop-x : goal.invariant-loop-x

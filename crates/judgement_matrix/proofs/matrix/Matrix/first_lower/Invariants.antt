@@ -1,6 +1,7 @@
 use Rattle.std.proofs.Common.{◌≡◌}
 use Rattle.judgement_matrix.specs.Rows.{lower_rows, lower_rows_of}
-use Rattle.judgement_matrix.specs.Walk.{AllPairsOf, row_fails, first_stop}
+use Rattle.judgement_matrix.specs.Walk.{row_fails, first_stop}
+use Rattle.judgement_matrix.proofs.Walks.{AllPairsOf}
 use Rattle.judgement_matrix.proofs.matrix.Matrix.first_lower.Given as goal
 
 abbrev pub invariant-loop-p : goal.invariant-loop-p

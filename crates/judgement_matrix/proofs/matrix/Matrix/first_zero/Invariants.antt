@@ -1,6 +1,7 @@
 use Rattle.std.proofs.Common.{◌≡◌}
 use Rattle.judgement_matrix.specs.Rows.{zero_rows, zero_rows_of}
-use Rattle.judgement_matrix.specs.Walk.{AllPairsOf, row_fails, first_stop}
+use Rattle.judgement_matrix.specs.Walk.{row_fails, first_stop}
+use Rattle.judgement_matrix.proofs.Walks.{AllPairsOf}
 use Rattle.judgement_matrix.proofs.matrix.Matrix.first_zero.Given as goal
 
 abbrev pub invariant-loop-p : goal.invariant-loop-p

@@ -1,4 +1,4 @@
-use Rattle.std.proofs.Common.{◌≡◌, ◌+◌, ◌∙◌, refl, rules}
+use Rattle.std.proofs.Common.{◌≡◌, ◌+◌, ◌∙◌, rules}
 use Rattle.judgement_matrix.specs.Matrix.{IsPair, pairs}
 use Rattle.judgement_matrix.proofs.EveryLemmas.{every-pairs}
 use Rattle.judgement_matrix.proofs.matrix.Matrix.grown_cells.Goals as goal

@@ -1,6 +1,6 @@
 use Rattle.std.proofs.Common.{◌≡◌, ◌+◌, ◌++◌, map}
 use Rattle.judgement_matrix.specs.Change.{grown, grown_cell}
-use Rattle.judgement_matrix.specs.Walk.{AllPairsOf}
+use Rattle.judgement_matrix.proofs.Walks.{AllPairsOf}
 use Rattle.judgement_matrix.proofs.matrix.Matrix.grown_cells.Given as goal
 
 abbrev pub invariant-loop-p : goal.invariant-loop-p

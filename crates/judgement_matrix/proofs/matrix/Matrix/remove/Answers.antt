@@ -1,6 +1,5 @@
-use Rattle.std.proofs.Common.{◌≡◌, ◌-◌, ◌≤◌, sym, subst}
+use Rattle.std.proofs.Common.{◌-◌, ◌≤◌, sym, subst}
 use Rattle.judgement_matrix.specs.Matrix.{Judgements, IsMatrix}
-use Rattle.judgement_matrix.specs.Change.{without}
 use Rattle.judgement_matrix.proofs.ChangeLemmas.{IsMatrix-without}
 use Rattle.judgement_matrix.proofs.matrix.Matrix.remove.Goals as goal
 
