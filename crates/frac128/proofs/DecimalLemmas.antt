@@ -1,8 +1,11 @@
 -- Decimal digits by division, and the nearest whole number.
-use Rattle.std.proofs.Common.{◌<ℤ◌, ◌≡◌, ℕ, zero, suc, ◌+◌, ◌-◌, ◌*◌, ◌^◌, ◌<◌, ◌≤◌, List, [], ◌∷◌, ◌++◌, length, refl, ap, subst, sym, ◌∙◌, arith, ℤ, pos, negsuc, neg_ℤ, ◌-ℤ◌, ◌*ℤ◌, unsigned_abs, Bool, true, false, ◌↔◌, append-nil, replicate, ⊎_elim}
+use Rattle.std.proofs.Common.{Decides, ◌<ℤ◌, ◌≡◌, ℕ, zero, suc, ◌+◌, ◌-◌, ◌*◌, ◌/◌, ◌%◌, ◌^◌, ◌&&◌, ◌<◌, ◌≤◌, List, [], ◌∷◌, ◌++◌, length, refl, ap, subst, sym, ◌∙◌, arith, ℤ, pos, negsuc, neg_ℤ, ◌-ℤ◌, ◌*ℤ◌, unsigned_abs, Bool, true, false, ◌↔◌, append-nil, replicate, ⊎_elim}
 use Rattle.std.proofs.Math.Nat.{mul-le-mul_left, pow-le-pow_right}
 use Rattle.std.proofs.lemmas.Fmt.{decimal_is_IsNumeral_wide, length-decimal-le_wide}
 use Rattle.std.proofs.lemmas.Grind.{pow_more}
+use Rattle.std.proofs.lemmas.Nat.{div-mul-add, mod-mul-add}
+use Rattle.std.proofs.lemmas.Bool.Decides.{nat_tests, Decides-and}
+use Rattle.std.specs.Prelude.{int_lt, nat_lt}
 use Rattle.std.proofs.lemmas.Bool.{cases_lt, false≢true}
 use Rattle.std.specs.Fmt.{padded_integral, char_count, format_spec, decimal}
 use Rattle.std.proofs.lemmas.Int.{ints}
@@ -11,7 +14,8 @@ use Rattle.integers.specs.Fraction.{Fraction}
 use Rattle.integers.proofs.Ring.{neg, ◌⊖◌, ◌⊗◌, ◌≗◌, ring4}
 use Rattle.integers.proofs.Divisibility.{pos-unsigned_abs, unsigned_abs-neg}
 use Rattle.integers.proofs.Order.{le_of_lt}
-use Rattle.frac128.specs.Decimal.{IsNearest, IsDecimal, IsHalfUp, sign_text, padded_digits, pointed_text}
+use Rattle.integers.proofs.OrderTests.{int_lt-Decides}
+use Rattle.frac128.specs.Decimal.{IsNearest, IsDecimal, IsHalfUp, sign_text, padded_digits, pointed_text, half_up, rounded_size, decimal_text}
 
 -- a power of ten more
 pub ten_more : (i : ℕ) → 10 ^ (i + 1) ≡ 10 * 10 ^ i
@@ -164,3 +168,42 @@ module _ (width : ℕ) (numeral : List ℕ) where
 pub padded_is : (width places part : ℕ) → width ≡ places
     → padded_integral (format_spec 32 0 4 width (2 ^ 64 - 1)) false [] (decimal part) ≡ padded_digits places part
 padded_is width places part e = zeros_before width (decimal part) ∙ ap (λ w. padded_digits w part) e
+
+-- what is rounded half up is the quotient
+half_up_is : (x den m : ℕ) → IsHalfUp x den m → half_up x den ≡ m
+half_up_is x den m h =
+    let whole : 2 * x + den ≡ m * (2 * den) + (2 * x + den - 2 * (m * den)) = omega (arith, h.0) in
+    ap (λ n. n / (2 * den)) whole ∙ div-mul-add m (2 * den) (2 * x + den - 2 * (m * den)) (omega (arith, h.1))
+
+-- two tests that pass together
+same_tests : (a b : Bool) → (a ≡ true → b ≡ true) → (b ≡ true → a ≡ true) → a ≡ b
+same_tests true b there back = sym (there refl)
+same_tests false true there back = back refl
+same_tests false false there back = refl
+
+nat_lt-Decides : (n : ℕ) → Decides (nat_lt 0 n) (0 < n)
+nat_lt-Decides n = (λ e. grind (arith, nat_tests), λ h. grind (arith, nat_tests))
+
+-- a size that is not 0 has a part that is not 0
+part_positive : (whole part s : ℕ) → 0 < whole * s + part → 0 < whole + part
+part_positive zero part s l = omega (arith, l)
+part_positive (suc whole) part s l = omega arith
+
+-- `-` by its test
+minus_is : (num : ℤ) (minus : Bool) (size whole part : ℕ) → (0 < whole + part → 0 < size) → (0 < size → 0 < whole + part) → minus ≡ true ↔ ((num <ℤ pos 0) × (0 < whole + part))
+    → minus ≡ (int_lt num (pos 0) && nat_lt 0 size)
+minus_is num minus size whole part some more sign = same_tests minus (int_lt num (pos 0) && nat_lt 0 size)
+    (λ t. (Decides-and (int_lt num (pos 0)) (nat_lt 0 size) (int_lt-Decides num (pos 0)) (nat_lt-Decides size)).1 ((sign.0 t).0, some (sign.0 t).1))
+    (λ t. let both = (Decides-and (int_lt num (pos 0)) (nat_lt 0 size) (int_lt-Decides num (pos 0)) (nat_lt-Decides size)).0 t in sign.1 (both.0, more both.1))
+
+-- the text by its size
+pub decimal_text_is : (f : Fraction) (places whole part : ℕ) (minus : Bool) (text : List ℕ) → part < 10 ^ places
+    → IsHalfUp (10 ^ places * unsigned_abs f.num) (unsigned_abs f.den) (whole * 10 ^ places + part) → minus ≡ true ↔ ((f.num <ℤ pos 0) × (0 < whole + part))
+    → text ≡ pointed_text minus whole part places → text ≡ decimal_text f places
+decimal_text_is f places whole part minus text below half sign e =
+    let size : rounded_size f places ≡ whole * 10 ^ places + part = half_up_is (10 ^ places * unsigned_abs f.num) (unsigned_abs f.den) (whole * 10 ^ places + part) half in
+    let whole_is : rounded_size f places / 10 ^ places ≡ whole = ap (λ n. n / 10 ^ places) size ∙ div-mul-add whole (10 ^ places) part below in
+    let part_is : rounded_size f places % 10 ^ places ≡ part = ap (λ n. n % 10 ^ places) size ∙ mod-mul-add whole (10 ^ places) part below in
+    let some : 0 < whole + part → 0 < rounded_size f places = λ l. omega (arith, size, size_positive whole part places l) in
+    let more : 0 < rounded_size f places → 0 < whole + part = λ l. part_positive whole part (10 ^ places) (omega (arith, size, l)) in
+    e ∙ λ i. pointed_text (minus_is f.num minus (rounded_size f places) whole part some more sign i) (sym whole_is i) (sym part_is i) places

@@ -1,7 +1,7 @@
 -- Fractions rounded to decimal places.
 use Rattle.integers.specs.Fraction.{Fraction}
 use Rattle.std.specs.Fmt.{decimal}
-use Rattle.std.specs.Prelude.{◌≡◌, ◌≤◌, ◌*◌, ◌^◌, ◌+◌, ◌<◌, ℕ, List, [], ◌++◌, codes, ℤ, Bool, if◌then◌else◌, replicate, ◌-◌, pos, negsuc, ◌*ℤ◌, ◌-ℤ◌, length, unsigned_abs}
+use Rattle.std.specs.Prelude.{◌≡◌, ◌≤◌, ◌*◌, ◌/◌, ◌%◌, ◌^◌, ◌+◌, ◌<◌, ℕ, List, [], ◌++◌, codes, ℤ, Bool, ◌&&◌, if◌then◌else◌, replicate, ◌-◌, pos, negsuc, ◌*ℤ◌, ◌-ℤ◌, length, unsigned_abs, int_lt, nat_lt}
 use Rattle.std.specs.Str.Parse.{AllDigits, digits_value}
 
 -- k is the whole number nearest to scale times the fraction, and of two such numbers the one farther from 0
@@ -38,3 +38,17 @@ padded_digits places part = replicate (places - length (decimal part)) 48 ++ dec
 abbrev pub pointed_text : Bool → ℕ → ℕ → ℕ → List ℕ
 pointed_text minus whole part places =
     (if minus then codes "-" else []) ++ (decimal whole ++ (codes "." ++ padded_digits places part))
+
+-- that number
+abbrev pub half_up : ℕ → ℕ → ℕ
+half_up x den = (2 * x + den) / (2 * den)
+
+-- the size of a fraction with so many digits behind the point, as the whole number of all its digits
+abbrev pub rounded_size : Fraction → ℕ → ℕ
+rounded_size f places = half_up (10 ^ places * unsigned_abs f.num) (unsigned_abs f.den)
+
+-- a fraction rounded to so many places, half away from 0; `-` only where a digit isn't 0
+abbrev pub decimal_text : Fraction → ℕ → List ℕ
+decimal_text f places =
+    let size = rounded_size f places in
+    pointed_text (int_lt f.num (pos 0) && nat_lt 0 size) (size / 10 ^ places) (size % 10 ^ places) places

@@ -1,6 +1,6 @@
 //! Fractions rounded to decimal places.
 
-ghost use Rattle.frac128.specs.Decimal.{IsDecimal, IsHalfUp, pointed_text};
+ghost use Rattle.frac128.specs.Decimal.{IsDecimal, IsHalfUp, decimal_text, pointed_text};
 ghost use Rattle.frac128.specs.declared.decimals.TheConstants.{MOST_PLACES};
 ghost use Rattle.std.specs.Prelude.{◌≡◌, ◌+◌, ◌*◌, ◌<◌, ◌≤◌, ◌^◌, ◌↔◌, pos, ◌<ℤ◌, IsTrue, IfOk, string_bytes};
 
@@ -15,7 +15,8 @@ impl Frac {
     pub fn decimal(&self, alloc: Global, places: u8) -> Result<String, AllocError>
         requires some { 1 ≤ places }
         requires few { places ≤ MOST_PLACES }
-        ensures { IfOk result (λ text. IsDecimal self.now places (string_bytes text)) }
+        ensures rounded { IfOk result (λ text. IsDecimal self.now places (string_bytes text)) }
+        ensures text { IfOk result (λ text. string_bytes text ≡ decimal_text self.now places) }
     {
         let num = self.num();
         let (whole, part) = rounded(num.unsigned_abs(), self.den().unsigned_abs(), places);

@@ -1,5 +1,5 @@
 use Rattle.frac128.specs.Decimal.{IsHalfUp, pointed_text}
-use Rattle.frac128.proofs.DecimalLemmas.{decimal_is}
+use Rattle.frac128.proofs.DecimalLemmas.{decimal_is, decimal_text_is}
 use Rattle.std.proofs.Common.{◌≡◌, ◌∙◌, ◌*◌, ◌+◌, ◌^◌, ◌<◌, ◌↔◌, ◌<ℤ◌, pos, true, ap, subst, string_bytes, unsigned_abs}
 use Rattle.std.proofs.lemmas.Int.{to_z-of_z}
 use mir.Syntax.{w128}
@@ -20,7 +20,12 @@ returns c =
     subst (λ n. IsHalfUp (10 ^ places * n) (unsigned_abs f.den) (whole * 10 ^ places + part)) num_size
     (subst (λ d. IsHalfUp (10 ^ places * c.unsigned_abs.result) d (whole * 10 ^ places + part)) den_size c.rounded-whole.ensures.half_up) in
     let sign = subst (λ z. c.shows_minus.result ≡ true ↔ ((z <ℤ pos 0) × (0 < whole + part))) num_is c.shows_minus.ensures in
-    IfOk-weaker c.pointed.result (λ text. string_bytes text ≡ pointed_text c.shows_minus.result whole part places) _
-    (λ text h. decimal_is f places whole part c.shows_minus.result (string_bytes text) c.requires.some c.requires.few c.rounded-whole.ensures.part
-    c.den.ensures.positive half sign h)
-    c.pointed.ensures
+    record {
+      rounded = IfOk-weaker c.pointed.result (λ text. string_bytes text ≡ pointed_text c.shows_minus.result whole part places) _
+          (λ text h. decimal_is f places whole part c.shows_minus.result (string_bytes text) c.requires.some c.requires.few c.rounded-whole.ensures.part
+          c.den.ensures.positive half sign h)
+          c.pointed.ensures;
+      text = IfOk-weaker c.pointed.result (λ text. string_bytes text ≡ pointed_text c.shows_minus.result whole part places) _
+          (λ text h. decimal_text_is f places whole part c.shows_minus.result (string_bytes text) c.rounded-whole.ensures.part half sign h)
+          c.pointed.ensures;
+    }
