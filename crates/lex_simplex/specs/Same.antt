@@ -12,7 +12,7 @@ use Rattle.lex_simplex.specs.declared.outcome.Outcome.TheVariants.{Least, Nothin
 abbrev pub is_same_fraction : Fraction → Fraction → Bool
 is_same_fraction = eq_of_both (on (λ (f : Fraction). f.num) int_eq) (on (λ (f : Fraction). f.den) int_eq)
 
-is_same_fraction-laws : IsEquivalence is_same_fraction
+pub is_same_fraction-laws : IsEquivalence is_same_fraction
 is_same_fraction-laws = and_equiv (on_equiv (λ (f : Fraction). f.num) int_eq_equiv) (on_equiv (λ (f : Fraction). f.den) int_eq_equiv)
 
 -- the same row and the same multiplier
@@ -26,7 +26,7 @@ is_same_entry-laws = and_equiv (on_equiv (λ (e : ℕ × ℤ). e.0) nat_eq_equiv
 abbrev pub is_same_cert : Cert → Cert → Bool
 is_same_cert = eq_of_both (on (λ (c : Cert). c.den) int_eq) (on (λ (c : Cert). c.on) (pointwise is_same_entry))
 
-is_same_cert-laws : IsEquivalence is_same_cert
+pub is_same_cert-laws : IsEquivalence is_same_cert
 is_same_cert-laws = and_equiv
     (on_equiv (λ (c : Cert). c.den) int_eq_equiv)
     (on_equiv (λ (c : Cert). c.on) (lists_equiv is_same_entry-laws))

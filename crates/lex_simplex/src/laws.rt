@@ -4,12 +4,15 @@ ghost use Rattle.integers.specs.Counting.{choose};
 ghost use Rattle.integers.specs.Fraction.{SameFractions};
 ghost use Rattle.integers.specs.Lexicographic.{LexLess};
 ghost use Rattle.integers.specs.Vector.{scale, unit_vector};
+ghost use Rattle.lex_simplex.specs.Answer.{IsOutcome, end_of};
 ghost use Rattle.lex_simplex.specs.Columns.{column_set, IsChoice};
 ghost use Rattle.lex_simplex.specs.Equations.{IsTableauOf};
 ghost use Rattle.lex_simplex.specs.Pivot.{IsLeaving, IsEntering};
 ghost use Rattle.lex_simplex.specs.Tableau.{TableRow, Tableau, start, row_of, entry, values};
 ghost use Rattle.lex_simplex.specs.Turn.{IsRun, Reaches, ratios, leaving, entering};
-ghost use Rattle.std.specs.Prelude.{◌≡◌, ◌≢◌, ◌↔◌, ℕ, suc, ◌+◌, ◌<◌, ◌<ℤ◌, ◌≤ℤ◌, length, get_or, pos, All, AllPairs, IsTrue, Some as SomePlace, None as NoPlace, Result as Ended};
+ghost use Rattle.lex_simplex.specs.declared.end.End.{End as RunEnd};
+ghost use Rattle.lex_simplex.specs.declared.outcome.Outcome.{Outcome as Answer};
+ghost use Rattle.std.specs.Prelude.{◌≡◌, ◌≢◌, ◌↔◌, ℕ, suc, ◌+◌, ◌<◌, ◌<ℤ◌, ◌≤ℤ◌, length, get_or, pos, All, AllPairs, IsTrue, Some as SomePlace, None as NoPlace, Result as Ended, Ok as EndOk};
 
 use crate::end::{End, PivotFault};
 use crate::outcome::Outcome;
@@ -93,4 +96,13 @@ pub fn are_equal_outcomes(a: &Outcome, b: &Outcome) -> bool
     ensures { IsTrue result ↔ (a.now ≡ b.now) }
 {
     a == b
+}
+
+/// States that where a run ends in range there is an outcome that tells its end. It does nothing.
+pub fn ends_have_outcomes(problem: &Problem)
+    ensures { (end : RunEnd) (n : ℕ) → IsRun problem.now (EndOk end) n → (outcome : Answer)
+        × IsOutcome problem.now outcome × (end_of outcome ≡ end) }
+{
+    // For the prover alone: the value is a problem.
+    problem.vars();
 }

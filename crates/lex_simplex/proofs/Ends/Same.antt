@@ -11,7 +11,7 @@ use Rattle.lex_simplex.specs.Same.{is_same_fraction, is_same_cert, is_same_outco
 use Rattle.lex_simplex.specs.declared.outcome.Outcome.{Outcome}
 use Rattle.lex_simplex.specs.declared.outcome.Outcome.TheVariants.{Least, Nothing}
 
-fraction_Decides : (f g : Fraction) → Decides (is_same_fraction f g) (f ≡ g)
+pub fraction_Decides : (f g : Fraction) → Decides (is_same_fraction f g) (f ≡ g)
 fraction_Decides f g =
     let h = both_Decides (int_eq f.num g.num) (int_eq f.den g.den) (f.num ≡ g.num) (f.den ≡ g.den) (signed_Decides f.num g.num) (signed_Decides f.den g.den) in
     (
