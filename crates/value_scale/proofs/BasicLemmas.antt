@@ -1,6 +1,6 @@
 -- From the least point of the threshold problem to the least scale of the matrix and its span.
 use Rattle.std.specs.Result.{IfOk}
-use Rattle.std.proofs.Common.{◌≡◌, ℕ, zero, suc, ◌+◌, ◌-◌, ◌≤◌, ◌<◌, ℤ, pos, ◌*ℤ◌, ◌<ℤ◌, List, [], ◌∷◌, ◌++◌, take, drop, length, get_or, replicate, refl, ap, subst, sym, ◌∙◌, All, Result, Ok, Err, arith}
+use Rattle.std.proofs.Common.{◌≡◌, ℕ, zero, suc, ◌+◌, ◌-◌, ◌≤◌, ◌<◌, ℤ, pos, ◌<ℤ◌, List, [], ◌∷◌, take, length, get_or, refl, ap, subst, sym, ◌∙◌, All, Ok, arith}
 use Rattle.std.proofs.lemmas.List.{take_all}
 use Rattle.std.proofs.lemmas.List.Elements.{All-take, All-get_or, All-head}
 use Rattle.std.proofs.lemmas.Result.{IfOk-weaker}
@@ -13,7 +13,7 @@ use Rattle.frac128.specs.Frac.{IsReduced}
 use Rattle.frac128.specs.Problem.{IsLeast, cost_at, combination, IsSpanCertificate}
 use Rattle.frac128.specs.declared.problem.Cert.{Cert}
 use Rattle.judgement_matrix.specs.Matrix.{Judgements}
-use Rattle.judgement_matrix.specs.Scale.{IsMetBy, value_at}
+use Rattle.judgement_matrix.specs.Scale.{IsMetBy}
 use Rattle.judgement_matrix.specs.Least.{IsSmaller, IsLeastScale}
 use Rattle.lp_macbeth.specs.Gaps.{scale_of}
 use Rattle.lp_macbeth.specs.Rows.{problem_of}

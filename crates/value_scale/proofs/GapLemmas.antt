@@ -1,9 +1,8 @@
 -- The values that gap sums give are the scale that the gaps make.
 use Rattle.std.specs.Result.{IfOk}
-use Rattle.std.proofs.Common.{◌≡◌, ℤ, pos, ◌+ℤ◌, ◌*ℤ◌, ◌<ℤ◌, List, [], ◌∷◌, ◌++◌, reverse, refl, ap, subst, sym, Ok, Err}
+use Rattle.std.proofs.Common.{◌≡◌, ℤ, pos, ◌+ℤ◌, ◌*ℤ◌, ◌<ℤ◌, List, [], ◌∷◌, reverse, refl, ap, Ok}
 use Rattle.std.proofs.lemmas.List.Elements.{All-head, All-tail, All-cons, All-nil, All-append}
 use Rattle.std.proofs.lemmas.List.{reverse-append}
-use Rattle.std.proofs.lemmas.Result.{IfOk-weaker}
 use Rattle.integers.specs.Fraction.{Fraction, IsFraction, AreFractions, SameFraction, IsWriting, fraction_of, fraction_sum}
 use Rattle.integers.specs.Vector.{running_sums}
 use Rattle.integers.proofs.Fractions.{SameFraction-sym, SameFraction-trans}

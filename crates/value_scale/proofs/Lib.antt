@@ -6,6 +6,8 @@ pub mod GapLemmas
 pub mod IntervalLemmas
 pub mod MetLemmas
 pub mod NarrowingLemmas
+pub mod OneAnswerLemmas
+pub mod SameLemmas
 pub mod SideLemmas
 pub mod SlackLemmas
 pub mod UnboundedLemmas

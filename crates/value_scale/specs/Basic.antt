@@ -1,6 +1,5 @@
 -- The basic scale of a matrix: its least scale with a proof of the span, or a proof that no scale meets it; and when it is found.
-use Rattle.std.specs.Prelude.{◌≡◌, ◌⊎◌, ◌-◌, ℕ, ℤ, pos, List, [], ◌∷◌, take, get_or, All, Result, Ok, Err, IsTrue}
-use Rattle.std.specs.Result.{is_err}
+use Rattle.std.specs.Prelude.{◌≡◌, ◌⊎◌, ◌-◌, ℕ, ℤ, pos, List, take, get_or, All, Result, Ok, Err}
 use Rattle.integers.specs.Fraction.{Fraction, IsWriting, fraction_of}
 use Rattle.frac128.specs.Frac.{IsReduced}
 use Rattle.frac128.specs.Problem.{IsSpanCertificate, IsFarkasCertificate}
@@ -10,6 +9,8 @@ use Rattle.judgement_matrix.specs.Matrix.{Judgements}
 use Rattle.judgement_matrix.specs.Scale.{IsInconsistent}
 use Rattle.judgement_matrix.specs.Least.{IsLeastScale}
 use Rattle.lex_simplex.specs.Answer.{IsLeastPoint}
+use Rattle.lex_simplex.specs.Count.{capped_sum}
+use Rattle.lex_simplex.specs.Turn.{IsRun}
 use Rattle.lex_simplex.specs.declared.outcome.Outcome.{Outcome}
 use Rattle.lex_simplex.specs.declared.outcome.Outcome.TheVariants.{Least, Nothing}
 use Rattle.lex_simplex.specs.declared.end.End.{End}
@@ -74,3 +75,36 @@ IsReadSo m (Err fault) end = EndsSo m (Err fault) (Ok end)
 abbrev pub Certifies : Judgements → Outcome → Cert → Type 0
 Certifies m (Least point value cert) on = IsSpanCertificate (problem_of m) on value
 Certifies m (Nothing cert) on = IsFarkasCertificate (problem_of m) on × (on.den ≡ pos 1)
+
+-- the run of the threshold problem behind an answer: its end fits the answer, and its pivots are counted
+pub record IsFoundBy (m : Judgements) (count : ℕ) (answer : Result Basic ScaleFault) (after : ℕ) : Type 0 where
+  pub end : Result End PivotFault
+  pub pivots : ℕ
+  pub run : IsRun (threshold_problem_of m) end pivots
+  pub counted : after ≡ capped_sum count pivots
+  pub ends : EndsSo m answer end
+
+-- the basic scale of the matrix, or that the run or a sum of gaps is too wide, with the pivots of the run counted; or no memory
+-- is told
+abbrev pub IsFound : Judgements → ℕ → Result Basic ScaleFault → ℕ → Type 0
+IsFound m count (Ok basic) after = IsBasic m basic × IsFoundBy m count (Ok basic) after
+IsFound m count (Err fault.TooWide) after = IsFoundBy m count (Err fault.TooWide) after
+IsFound m count (Err fault.NoMemory) after = after ≡ count
+
+-- ---- one answer
+
+-- an answer other than that memory is wanted
+abbrev pub IsAnswered : Result Basic ScaleFault → Type 0
+IsAnswered (Ok basic) = Unit {0}
+IsAnswered (Err fault.TooWide) = Unit {0}
+IsAnswered (Err fault.NoMemory) = ⊥
+
+-- the same scale, or both that none meets the matrix, or both the same fault; the multipliers may differ
+abbrev pub TellTheSame : Result Basic ScaleFault → Result Basic ScaleFault → Type 0
+TellTheSame (Ok (Scale values cert)) (Ok (Scale others on)) = values ≡ others
+TellTheSame (Ok (Scale values cert)) (Ok (Inconsistent on)) = ⊥
+TellTheSame (Ok (Inconsistent cert)) (Ok (Scale others on)) = ⊥
+TellTheSame (Ok (Inconsistent cert)) (Ok (Inconsistent on)) = Unit {0}
+TellTheSame (Ok basic) (Err fault) = ⊥
+TellTheSame (Err fault) (Ok basic) = ⊥
+TellTheSame (Err first) (Err second) = first ≡ second

@@ -1,5 +1,5 @@
 -- What is answered for a formula.
-use Rattle.std.specs.Prelude.{◌≡◌, List, Result, Ok, Err, IsTrue}
+use Rattle.std.specs.Prelude.{◌≡◌, Result, Ok, Err, IsTrue}
 use Rattle.std.specs.Result.{is_err}
 use Rattle.frac128.specs.declared.number.TooWide.{TooWide}
 use Rattle.value_scale.specs.declared.fault.ScaleFault.{ScaleFault}

@@ -1,5 +1,5 @@
 -- The values of a scale from its gaps, the bottom one first: each value is worked by one sum, from the bottom upwards.
-use Rattle.std.specs.Prelude.{List, [], ◌∷◌, pos, reverse, Result, Ok, Err}
+use Rattle.std.specs.Prelude.{List, [], ◌∷◌, pos, reverse, Result, Ok}
 use Rattle.integers.specs.Fraction.{Fraction, fraction_of}
 use Rattle.frac128.specs.Checked.{◌>>=◌, checked_sum}
 use Rattle.frac128.specs.declared.number.TooWide.{TooWide}

@@ -3,4 +3,5 @@ pub mod Basic
 pub mod Fault
 pub mod GapSums
 pub mod Narrowing
+pub mod Same
 pub mod Slack

@@ -1,25 +1,26 @@
 //! The basic scale of a matrix.
 
-ghost use Rattle.std.specs.Prelude.{◌≡◌, ◌≤◌, Ok, pos};
+ghost use Rattle.std.specs.Prelude.{◌≡◌, ◌≤◌, Ok, pos, IfOk};
 ghost use Rattle.lex_simplex.specs.declared.end.End.TheVariants.{Optimal, Empty};
 ghost use Rattle.frac128.specs.Problem.{IsSpanCertificate, IsFarkasCertificate, IsInfeasible};
 ghost use Rattle.lex_simplex.specs.Answer.{IsLeastAnswer, IsOutcome, end_of};
 ghost use Rattle.lp_macbeth.specs.Rows.{problem_of};
 ghost use Rattle.lp_macbeth.specs.Threshold.{threshold_problem_of};
+ghost use Rattle.value_scale.specs.Same.{is_same_basic};
 ghost use Rattle.value_scale.specs.Basic.{IsReadSo, Certifies};
 
 use crate::fault::ScaleFault;
 use crate::gap_sums::values_of;
 use frac128::laws::are_fractions;
 use frac128::problem::Cert;
-use frac128::{Frac, List};
+use frac128::{Frac, List, NoMemory};
 use judgement_matrix::Matrix;
 use judgement_matrix::laws::{writings_compare_alike, writings_meet_alike};
 use lex_simplex::Outcome;
 use lp_macbeth::laws::thresholds_are_enough;
 use std::alloc::Global;
 
-/// What the judgements of a matrix give.
+/// What the judgements of a matrix give. Two are equal exactly where all that they hold is (`laws::are_equal_basics`).
 #[derive(Debug, Drop)]
 pub enum Basic {
     /// The least scale (after LP-MACBETH, Bana e Costa, De Corte and Vansnick 2005; the tie rule is this project's own): a value for
@@ -27,6 +28,65 @@ pub enum Basic {
     Scale { values: List<Frac>, cert: Cert },
     /// Multipliers of the matrix's rows that show that no scale meets the judgements.
     Inconsistent { cert: Cert },
+}
+
+impl PartialEq for Basic {
+    ghost use Rattle.std.specs.Cmp.{partial_equiv_from_equiv};
+    ghost use Rattle.value_scale.specs.Same.{is_same_basic, is_same_basic-laws};
+
+    ghost eq = { is_same_basic };
+
+    ghost laws = { partial_equiv_from_equiv is_same_basic-laws };
+
+    fn eq(&self, other: &Basic) -> bool {
+        match self {
+            Basic::Scale { values, cert } => is_scale(other, values, cert),
+            Basic::Inconsistent { cert } => is_refutation(other, cert),
+        }
+    }
+}
+
+impl Eq for Basic {
+    ghost use Rattle.value_scale.specs.Same.{is_same_basic-laws};
+
+    ghost laws = { is_same_basic-laws };
+}
+
+// Whether a basic scale is this one.
+fn is_scale(basic: &Basic, values: &List<Frac>, cert: &Cert) -> bool
+    ensures { result ≡ is_same_basic (Basic.Scale values.now cert.now) basic.now }
+{
+    match basic {
+        Basic::Scale { values: v, cert: c } => values == v && cert == c,
+        Basic::Inconsistent { .. } => false,
+    }
+}
+
+// Whether a basic scale is this refutation.
+fn is_refutation(basic: &Basic, cert: &Cert) -> bool
+    ensures { result ≡ is_same_basic (Basic.Inconsistent cert.now) basic.now }
+{
+    match basic {
+        Basic::Scale { .. } => false,
+        Basic::Inconsistent { cert: c } => cert == c,
+    }
+}
+
+impl Basic {
+    /// The same once more.
+    pub fn copy(&self, alloc: Global) -> Result<Basic, NoMemory>
+        ensures { IfOk result (λ copy. copy ≡ self.now) }
+    {
+        match self {
+            Basic::Scale { values, cert } => Ok(Basic::Scale {
+                values: values.copy(alloc)?,
+                cert: cert.copy(alloc)?,
+            }),
+            Basic::Inconsistent { cert } => Ok(Basic::Inconsistent {
+                cert: cert.copy(alloc)?,
+            }),
+        }
+    }
 }
 
 // The scale of the least point of the threshold problem.

@@ -1,12 +1,15 @@
 //! Laws of the definitions, as contracts of functions that do nothing.
 
-ghost use Rattle.std.specs.Prelude.{◌≡◌, ◌≤◌, None, ℕ, List, ℤ, pos, length, ◌<ℤ◌, ◌≤ℤ◌};
+ghost use Rattle.std.specs.Prelude.{◌≡◌, ◌≤◌, None, ℕ, List, ℤ, pos, length, ◌<ℤ◌, ◌≤ℤ◌, ◌↔◌, IsTrue, Result as Answer};
 ghost use Rattle.integers.specs.Fraction.{Fraction, IsFraction, over, SameFractions};
 ghost use Rattle.judgement_matrix.specs.Matrix.{IsPair, Judgements};
 ghost use Rattle.judgement_matrix.specs.Scale.{value_at, IsMetBy};
 ghost use Rattle.value_scale.specs.Anchor.{IsAnchoredScale, AreReferences, NeverRise};
+ghost use Rattle.judgement_matrix.specs.Values.{AreValues};
+ghost use Rattle.value_scale.specs.Basic.{AreLeastValues, IsFound, IsAnswered, TellTheSame};
 ghost use Rattle.value_scale.specs.Slack.{IsSlack, MeetValues};
 
+use crate::{Basic, ScaleFault};
 use frac128::Frac;
 use frac128::laws::are_fractions;
 use judgement_matrix::Matrix;
@@ -41,3 +44,30 @@ pub fn only_the_first_is_unbounded()
     ensures { (m : Judgements) (w : List ℤ) (n : ℤ) (element : ℕ) (low : Fraction) → IsMetBy m w n → 2 ≤ element
         → element ≤ m.size → IsFraction low → ¬ IsSlack m w n element (record { low = low; high = None }) }
 {}
+
+/// States that the values of the least scale are those of a scale that meets the matrix: one for each element, the last one 0, and
+/// none above one listed before it. It only reads them, since what a type keeps is told where it is read.
+pub fn least_values_meet(matrix: &Matrix, values: &[Frac])
+    requires { AreLeastValues matrix.now values.now }
+    ensures meet { MeetValues matrix.now values.now }
+    ensures each { AreValues matrix.now values.now }
+    ensures fall { NeverRise values.now }
+{
+    are_fractions(values);
+    matrix.size();
+}
+
+/// States that a matrix has one answer but for its multipliers, and that it adds one number to a count, unless memory is wanted.
+/// It does nothing.
+pub fn one_basic_scale(matrix: &Matrix)
+    ensures { (count after later : ℕ) (first second : Answer Basic ScaleFault)
+        → IsAnswered first → IsAnswered second → IsFound matrix.now count first after
+        → IsFound matrix.now count second later → TellTheSame first second × (after ≡ later) }
+{}
+
+/// Whether two basic scales are equal: exactly where they are one.
+pub fn are_equal_basics(a: &Basic, b: &Basic) -> bool
+    ensures { IsTrue result ↔ (a.now ≡ b.now) }
+{
+    a == b
+}

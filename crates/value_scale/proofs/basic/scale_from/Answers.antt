@@ -1,4 +1,4 @@
-use Rattle.std.proofs.Common.{All, subst, arith, refl, ap, sym, take, ◌-◌, ◌∙◌, length, Ok}
+use Rattle.std.proofs.Common.{All, subst, arith, refl, ap, sym, take, ◌-◌, ◌∙◌, Ok}
 use Rattle.std.proofs.lemmas.List.{length-take-le}
 use Rattle.integers.specs.Fraction.{AreFractions}
 use Rattle.frac128.specs.Frac.{IsReduced}
