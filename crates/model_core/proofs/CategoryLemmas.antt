@@ -5,7 +5,7 @@ use Rattle.judgement_matrix.specs.Range.{Bounds, IsRange, bounds}
 use Rattle.model_core.specs.Categories.{range_of, range_text}
 
 -- what holds at 0 to 6
-below_seven : (P : ℕ → Type 0) → P 0 → P 1 → P 2 → P 3 → P 4 → P 5 → P 6 → (n : ℕ) → n ≤ 6 → P n
+pub below_seven : (P : ℕ → Type 0) → P 0 → P 1 → P 2 → P 3 → P 4 → P 5 → P 6 → (n : ℕ) → n ≤ 6 → P n
 below_seven P a b c d e f g zero h = a
 below_seven P a b c d e f g (suc zero) h = b
 below_seven P a b c d e f g (suc (suc zero)) h = c

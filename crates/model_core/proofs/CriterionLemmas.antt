@@ -1,12 +1,10 @@
 -- A criterion comes and a criterion goes: what a model keeps.
-use Rattle.std.proofs.Common.{◌≡◌, ℕ, zero, suc, ◌+◌, ◌-◌, ◌<◌, ◌≤◌, ◌++◌, ◌⊎◌, inl, inr, List, [], ◌∷◌, Option, Some, None, map, remove, length, get_or, All, refl, sym, ap, subst, ◌∙◌, arith, length-append}
-use Rattle.std.specs.Option.{option_and_then}
+use Rattle.std.proofs.Common.{◌≡◌, ℕ, zero, suc, ◌+◌, ◌<◌, ◌≤◌, ◌++◌, ◌⊎◌, inl, inr, List, [], ◌∷◌, Option, Some, None, map, remove, length, get_or, All, refl, sym, ap, subst, ◌∙◌, arith, length-append}
 use Rattle.std.proofs.lemmas.Bool.{cases_lt}
 use Rattle.std.proofs.lemmas.List.{length-map, get_or-map}
 use Rattle.std.proofs.lemmas.List.Edits.{length-remove, get_or-remove_below, get_or-remove_above}
-use Rattle.judgement_matrix.specs.Change.{grown, without}
-use Rattle.model_core.specs.State.{CriterionState, GroupState, ModelState, IsRow, IsOrder, IsModel, no_criterion, elements_of}
-use Rattle.model_core.specs.Edits.{with_criterion, without_criterion, order_without}
+use Rattle.model_core.specs.State.{CriterionState, ModelState, IsRow, IsOrder, IsModel, no_criterion}
+use Rattle.model_core.specs.Edits.{with_criterion, without_criterion}
 use Rattle.model_core.specs.declared.limits.TheConstants.{CRITERIA}
 use Rattle.model_core.proofs.OrderLemmas.{IsOrder-push, IsOrder-without}
 

@@ -1,5 +1,5 @@
 -- Refusals of edits, one test at a time.
-use Rattle.std.proofs.Common.{◌≡◌, ℕ, Bool, true, false, List, [], ◌∷◌, ◌++◌, Option, Some, None, Result, Ok, Err, is_err, OnOk, drop, length, refl, sym, ap, ◌∙◌}
+use Rattle.std.proofs.Common.{◌≡◌, ℕ, Bool, true, false, List, [], ◌∷◌, ◌++◌, Option, Some, None, Result, Ok, Err, is_err, OnOk, refl, sym, ap, ◌∙◌}
 use Rattle.std.specs.Option.{option_map, option_and_then}
 use Rattle.std.proofs.lemmas.List.{append_assoc}
 use Rattle.model_core.specs.State.{ModelState}
@@ -29,10 +29,6 @@ pub places_more : (m : ModelState) (name : List ℕ) (names : List (List ℕ)) (
     → option_map (λ rest. before ++ rest) (places_of m (name ∷ names)) ≡ option_map (λ rest. (before ++ c ∷ []) ++ rest) (places_of m names)
 places_more m name names before c h =
     ap (λ o. option_map (λ rest. before ++ rest) (option_and_then (λ d. option_map (λ cs. d ∷ cs) (places_of m names)) o)) h ∙ onto before c (places_of m names)
-
-pub nothing_before : (o : Option (List ℕ)) → option_map (λ rest. [] ++ rest) o ≡ o
-nothing_before None = refl
-nothing_before (Some cs) = refl
 
 -- a step that isn't refused
 pub after_ok : {A B : Type 0} (r : Result A EditFault) (x : A) (next : A → Result B EditFault) → r ≡ Ok x → (r >>= next) ≡ next x

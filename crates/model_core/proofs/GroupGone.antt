@@ -1,12 +1,10 @@
 -- A group goes: what a model keeps.
-use Rattle.std.proofs.Common.{◌≡◌, ℕ, zero, suc, ◌+◌, ◌-◌, ◌<◌, ◌≤◌, ◌⊎◌, inl, inr, Bool, true, false, ◌==◌, List, [], ◌∷◌, Option, Some, None, nat_lt, map, remove, length, get_or, slice_get, if◌then◌else◌, refl, sym, ap, subst, ◌∙◌, arith}
-use Rattle.std.specs.Option.{option_and_then}
+use Rattle.std.proofs.Common.{◌≡◌, ℕ, zero, suc, ◌+◌, ◌-◌, ◌<◌, ◌≤◌, ◌⊎◌, inl, inr, true, false, ◌==◌, List, [], ◌∷◌, Option, Some, None, nat_lt, map, remove, length, get_or, if◌then◌else◌, refl, sym, ◌∙◌, arith}
 use Rattle.std.proofs.lemmas.Bool.Decides.{nat_tests}
 use Rattle.std.proofs.lemmas.List.{length-map}
 use Rattle.std.proofs.lemmas.List.Edits.{length-remove}
 use Rattle.model_core.specs.State.{CriterionState, GroupState, ModelState, IsModel, AreGroups, no_criterion, elements_of, parent_of}
 use Rattle.model_core.specs.Edits.{moved, regrouped, reparented, without_group}
-use Rattle.model_core.specs.declared.limits.TheConstants.{GROUPS}
 use Rattle.model_core.proofs.KeepLemmas.{IsModel-recast}
 
 none_some : {e : ℕ} → None ≡ Some e → ⊥

@@ -1,17 +1,13 @@
 -- What a model keeps, through each change.
-use Rattle.std.proofs.Common.{◌≡◌, ℕ, zero, suc, ◌+◌, ◌-◌, ◌<◌, ◌≤◌, ◌++◌, ◌⊎◌, inl, inr, List, [], ◌∷◌, Option, Some, None, map, remove, replicate, length, get_or, slice_get, slice_set, All, refl, sym, ap, subst, ◌∙◌, arith, rules, length-append}
+use Rattle.std.proofs.Common.{◌≡◌, ℕ, zero, suc, ◌+◌, ◌<◌, ◌≤◌, ◌⊎◌, inl, inr, List, [], ◌∷◌, Option, Some, None, length, get_or, slice_get, slice_set, refl, sym, ap, subst, ◌∙◌, arith, rules}
 use Rattle.std.specs.List.{IsDistinct}
 use Rattle.std.specs.Option.{option_and_then, IfSome}
 use Rattle.std.proofs.lemmas.Option.{get_or_from_slice_get}
-use Rattle.judgement_matrix.specs.Matrix.{Judgements, unjudged}
+use Rattle.judgement_matrix.specs.Matrix.{unjudged}
 use Rattle.model_core.specs.Lists.{changed_at}
-use Rattle.model_core.specs.declared.limits.TheConstants.{OPTIONS, CRITERIA, GROUPS}
+use Rattle.model_core.specs.declared.limits.TheConstants.{CRITERIA, GROUPS}
 use Rattle.model_core.proofs.RosterLemmas.{length-changed}
-use Rattle.model_core.specs.State.{CriterionState, GroupState, ModelState, IsRow, IsOrder, IsModel, AreGroups, no_criterion, elements_of, parent_of}
-
-no_element : {A : Type 0} (i : ℕ) (x : A) → slice_get [] i ≡ Some x → ⊥
-no_element zero x h = cc
-no_element (suc i) x h = cc
+use Rattle.model_core.specs.State.{CriterionState, GroupState, ModelState, IsOrder, IsModel, AreGroups, no_criterion, elements_of, parent_of}
 
 pub IsModel-empty : IsModel (record { options = []; criteria = []; groups = []; performances = []; order = []; weighting = unjudged 1 })
 unfolding IsDistinct

@@ -1,5 +1,6 @@
 pub mod NameLemmas
 pub mod CategoryLemmas
+pub mod GrammarLemmas
 pub mod RosterLemmas
 pub mod RowLemmas
 pub mod OrderLemmas

@@ -1,13 +1,13 @@
 -- What the entries of a map say of the list of its values, where each key has the bytes of its value's name.
-use Rattle.std.proofs.Common.{◌≡◌, ℕ, zero, suc, ◌+◌, ◌<◌, arith, add-one, take, drop, get_or, slice_get, Bool, true, false, not, cond, List, [], ◌∷◌, ◌++◌, length, map, remove, position, Option, None, Some, nat_lt, refl, sym, ap, subst, ◌∙◌, is_some}
-use Rattle.std.specs.List.{IsDistinct, AllByRecursion, position_or_len, prefix_len}
+use Rattle.std.proofs.Common.{◌≡◌, ℕ, zero, suc, ◌+◌, ◌<◌, arith, add-one, take, drop, get_or, slice_get, Bool, false, not, cond, List, [], ◌∷◌, ◌++◌, length, map, remove, position, Option, None, Some, nat_lt, refl, sym, ap, subst, ◌∙◌, is_some}
+use Rattle.std.specs.List.{IsDistinct, AllByRecursion, prefix_len}
 use Rattle.std.specs.Cmp.Lexicographic.{nat_list_eq_equiv}
 use Rattle.std.proofs.lemmas.Bool.Decides.{nat_tests}
 use Rattle.std.proofs.lemmas.Map.Keys.{IsDistinct-head, IsDistinct-tail}
 use Rattle.indexmap.specs.Layout.{set_value_at}
 use Rattle.std.specs.Map.{keys_of, values_of, lookup}
 use Rattle.std.specs.Str.{bytes_eq}
-use Rattle.std.proofs.lemmas.List.{map-append, length-map}
+use Rattle.std.proofs.lemmas.List.{map-append}
 use Rattle.std.proofs.lemmas.Option.{slice_get_within, get_or_from_slice_get}
 use Rattle.std.proofs.lemmas.Simd.{map-map}
 use Rattle.indexmap.proofs.SetLemmas.{map-remove}

@@ -1,5 +1,5 @@
 -- Ranges of categories as text.
-use Rattle.std.specs.Prelude.{ℕ, ◌-◌, ◌++◌, ◌&&◌, ◌==◌, List, [], ◌∷◌, map, Option, Some, None, nat_le, nat_lt, length, if◌then◌else◌, position, take, drop, slice_index_or, codes}
+use Rattle.std.specs.Prelude.{◌≡◌, ◌⊎◌, ℕ, ◌+◌, ◌-◌, ◌≤◌, ◌++◌, ◌&&◌, ◌==◌, List, [], ◌∷◌, map, Option, Some, None, nat_le, nat_lt, length, if◌then◌else◌, position, take, drop, slice_index_or, codes}
 use Rattle.std.specs.Option.{option_and_then, option_map_or}
 use Rattle.std.specs.Str.{bytes_eq}
 use Rattle.word_table.specs.Words.{find_word}
@@ -42,3 +42,20 @@ category_word c = slice_index_or category_words c []
 -- the text of a range: the word of its category, or the words of its least and its greatest category, joined
 abbrev pub range_text : Bounds → List ℕ
 range_text range = if range.lo == range.hi then category_word range.lo else category_word range.lo ++ codes ".." ++ category_word range.hi
+
+-- ---- the same as a grammar
+
+-- the bytes write a category: its digit or its word
+abbrev pub WritesCategory : List ℕ → ℕ → Type 0
+WritesCategory bytes c = (c ≤ 6) × ((bytes ≡ (48 + c) ∷ []) ⊎ (bytes ≡ category_word c))
+
+-- the bytes are two categories joined by two points, the first not above the second
+abbrev pub JoinsCategories : List ℕ → Bounds → Type 0
+JoinsCategories bytes range =
+    (lo hi : List ℕ) × (bytes ≡ lo ++ codes ".." ++ hi) × WritesCategory lo range.lo × WritesCategory hi range.hi × (range.lo ≤ range.hi)
+
+-- the bytes write a range: `positive`, one category, or two that are joined
+abbrev pub WritesRange : List ℕ → Bounds → Type 0
+WritesRange bytes range =
+    ((bytes ≡ codes "positive") × (range ≡ bounds 1 6))
+    ⊎ ((WritesCategory bytes range.lo × (range.lo ≡ range.hi)) ⊎ JoinsCategories bytes range)

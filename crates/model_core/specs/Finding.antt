@@ -1,9 +1,8 @@
 -- Where things of a model stand.
-use Rattle.std.specs.Prelude.{◌≡◌, ℕ, zero, suc, ◌+◌, ◌==◌, List, Option, Some, None, length, slice_index_or, codes, if◌then◌else◌}
+use Rattle.std.specs.Prelude.{◌≡◌, ℕ, zero, suc, ◌+◌, ◌==◌, List, Option, Some, length, slice_index_or, codes, if◌then◌else◌}
 use Rattle.std.specs.List.{position_or_len}
 use Rattle.std.specs.Option.{option_and_then, option_map}
 use Rattle.std.specs.Str.{bytes_eq}
-use Rattle.word_table.specs.Words.{find_word}
 use Rattle.model_core.specs.Lists.{find}
 use Rattle.model_core.specs.State.{CriterionState, GroupState, ModelState, no_criterion, parent_of}
 

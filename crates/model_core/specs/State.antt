@@ -1,13 +1,12 @@
 -- The model as the contracts see it: plain lists in one record. Options, criteria and groups count from 0; elements of a criterion
 -- and places of the weighting count from 1.
-use Rattle.std.specs.Prelude.{◌≡◌, ℕ, ◌+◌, ◌<◌, ◌≤◌, Bool, false, ◌||◌, eqb, List, [], ◌∷◌, Option, Some, None, length, slice_get, slice_index_or, All, codes, if◌then◌else◌}
-use Rattle.std.specs.List.{IsDistinct, position_or_len}
-use Rattle.std.specs.Option.{option_and_then, option_map}
+use Rattle.std.specs.Prelude.{◌≡◌, ℕ, ◌+◌, ◌<◌, ◌≤◌, Bool, false, ◌||◌, eqb, List, [], Option, Some, None, length, slice_get, slice_index_or, All, codes}
+use Rattle.std.specs.List.{IsDistinct}
+use Rattle.std.specs.Option.{option_and_then}
 use Rattle.std.specs.Str.{bytes_eq}
-use Rattle.word_table.specs.Words.{find_word, AreApart}
+use Rattle.word_table.specs.Words.{AreApart}
 use Rattle.judgement_matrix.specs.Matrix.{Judgements, unjudged}
 use Rattle.judgement_matrix.specs.declared.matrix.TheConstants.{LIMIT}
-use Rattle.model_core.specs.Lists.{find}
 use Rattle.model_core.specs.declared.limits.TheConstants.{OPTIONS, CRITERIA, GROUPS, LEAST_REACH, MOST_REACH}
 
 -- a criterion: its elements in the listed order, the good and the neutral one, the judgements, the reach, its group or the root

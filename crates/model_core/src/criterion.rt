@@ -99,6 +99,7 @@ impl Criterion {
     pub fn good(&self) -> usize
         ensures value { result ≡ self.now.good }
         ensures place { (1 ≤ result) × (result < self.now.neutral) }
+        ensures within { result ≤ length self.now.elements }
     {
         self.good
     }

@@ -21,5 +21,5 @@ pub use edit::EditFault;
 pub use group::Group;
 pub use limits::{CRITERIA, GROUPS, LEAST_REACH, MOST_REACH, NAME_BYTES, NEW_REACH, OPTIONS};
 pub use model::Model;
-pub use name::{Name, NoMemory, valid_name};
+pub use name::{Name, NoMemory, is_reserved, valid_name};
 pub use text::{Pointer, Text};

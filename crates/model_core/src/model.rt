@@ -5,7 +5,7 @@ ghost use Rattle.judgement_matrix.specs.Matrix.{unjudged};
 ghost use Rattle.judgement_matrix.specs.declared.matrix.TheConstants.{LIMIT};
 ghost use Rattle.model_core.specs.Lists.{AreNamedApart};
 ghost use Rattle.model_core.specs.State.{AreGroups};
-ghost use Rattle.model_core.specs.Finding.{find_option, find_criterion, find_group, find_element, criterion_at, place_in, weigh_place, LiesUnder};
+ghost use Rattle.model_core.specs.Finding.{find_option, find_criterion, find_group, find_element, criterion_at, place_in, weigh_place, matrix_size, LiesUnder};
 
 use crate::criterion::Criterion;
 use crate::group::Group;
@@ -170,6 +170,20 @@ impl Model {
         ensures size { result.now.size ≡ length self.now.criteria + 1 }
     {
         &self.weighting
+    }
+
+    /// The size of the matrix of a criterion by its name, or for `weighting` that of the weighting.
+    pub fn matrix_size(&self, name: &[u8]) -> Option<usize>
+        ensures size { result ≡ matrix_size self.now name.now }
+        ensures within { IfSome result (λ size. (1 ≤ size) × (size ≤ LIMIT)) }
+    {
+        if name == b"weighting".as_slice() {
+            return Some(self.weighting.size());
+        }
+        match self.criteria.find(name) {
+            None => None,
+            Some(criterion) => Some(self.criteria.get(criterion).elements()),
+        }
     }
 
     /// The number of groups.

@@ -3,6 +3,7 @@ ghost use Rattle.std.specs.Prelude.{◌≡◌, Some, None, IfOk, IsTrue, MatchOp
 ghost use Rattle.std.specs.List.{list_all};
 ghost use Rattle.std.specs.Str.{is_utf8};
 ghost use Rattle.model_core.specs.Names.{is_name, is_name_byte};
+ghost use Rattle.model_core.specs.State.{is_reserved};
 
 use crate::limits::NAME_BYTES;
 pub use std::alloc::AllocError as NoMemory;
@@ -33,6 +34,14 @@ pub fn valid_name(bytes: &[u8]) -> bool
     ensures { result ≡ is_name bytes.now }
 {
     is_utf8(bytes) && is_short(bytes) && are_name_bytes(bytes)
+}
+
+/// Whether a name stands for something else, so that no criterion may have it: `none` is the all-neutral profile and
+/// `weighting` the matrix of the weighting. It takes no memory.
+pub fn is_reserved(name: &[u8]) -> bool
+    ensures { result ≡ is_reserved name.now }
+{
+    name == b"none".as_slice() || name == b"weighting".as_slice()
 }
 
 fn is_short(bytes: &[u8]) -> bool

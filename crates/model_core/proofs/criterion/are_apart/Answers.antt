@@ -1,8 +1,8 @@
-use Rattle.std.proofs.Common.{◌≡◌, ◌+◌, ◌++◌, ◌∷◌, [], true, false, Bor, get_or, map, take, length, sym, ap, subst, ◌∙◌, arith, rules}
+use Rattle.std.proofs.Common.{◌≡◌, ◌+◌, ◌++◌, ◌∷◌, [], true, false, get_or, map, take, sym, ap, subst, ◌∙◌, arith, rules}
 use Rattle.std.specs.List.{IsDistinct, list_any}
 use Rattle.std.specs.Str.{bytes_eq}
 use Rattle.std.proofs.lemmas.Grind.{common_steps}
-use Rattle.word_table.specs.Words.{AreApart, are_apart}
+use Rattle.word_table.specs.Words.{AreApart}
 use Rattle.word_table.proofs.WordLemmas.{apart_by_test, test_by_apart}
 use Rattle.model_core.proofs.NameLemmas.{seen-push, apart-push, not_apart, not_true}
 use Rattle.model_core.proofs.criterion.are_apart.Goals as goal

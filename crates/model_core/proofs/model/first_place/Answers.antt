@@ -1,4 +1,4 @@
-use Rattle.std.proofs.Common.{◌≡◌, Option, ℕ, List, unwrap_or, length, ◌==◌, ap, ◌∙◌, rules}
+use Rattle.std.proofs.Common.{Option, ℕ, unwrap_or, length, ◌==◌, ap, ◌∙◌}
 use Rattle.model_core.proofs.OrderLemmas.{first_is}
 use Rattle.model_core.proofs.model.first_place.Goals as goal
 

@@ -1,4 +1,4 @@
-use Rattle.std.proofs.Common.{◌≡◌, List, [], sym, subst, rules}
+use Rattle.std.proofs.Common.{◌≡◌, [], sym, subst, rules}
 use Rattle.model_core.specs.State.{IsModel}
 use Rattle.model_core.proofs.KeepLemmas.{IsModel-empty}
 use Rattle.model_core.proofs.model.Model.empty.Goals as goal

@@ -1,4 +1,4 @@
-use Rattle.std.proofs.Common.{◌<◌, length, refl, inr, subst, sym, ap}
+use Rattle.std.proofs.Common.{◌<◌, length, refl, inr, subst, sym}
 use Rattle.std.specs.Option.{IfSome}
 use Rattle.model_core.specs.State.{CriterionState}
 use Rattle.model_core.proofs.KeepLemmas.{IsModel-changed, if_some}

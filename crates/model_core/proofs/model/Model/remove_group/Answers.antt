@@ -1,6 +1,5 @@
-use Rattle.std.proofs.Common.{◌≡◌, ◌<◌, List, length, map, remove, Some, slice_get, sym, ap, subst, ◌∙◌}
-use Rattle.std.specs.Option.{option_and_then}
-use Rattle.model_core.specs.State.{ModelState, IsModel, GroupState, CriterionState, parent_of}
+use Rattle.std.proofs.Common.{◌≡◌, ◌<◌, length, map, remove, sym, ap, subst, ◌∙◌}
+use Rattle.model_core.specs.State.{ModelState, IsModel, parent_of}
 use Rattle.model_core.specs.Edits.{regrouped, reparented}
 use Rattle.model_core.proofs.GroupLemmas.{parent_read}
 use Rattle.model_core.proofs.GroupGone.{IsModel-ungrouped}

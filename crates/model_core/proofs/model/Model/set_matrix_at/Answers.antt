@@ -1,5 +1,4 @@
 use Rattle.std.proofs.Common.{refl, inl}
-use Rattle.judgement_matrix.specs.Matrix.{judged, cleared}
 use Rattle.model_core.specs.State.{CriterionState}
 use Rattle.model_core.proofs.KeepLemmas.{IsModel-changed}
 use Rattle.model_core.proofs.model.Model.set_matrix_at.Goals as goal

@@ -1,4 +1,4 @@
-use Rattle.std.proofs.Common.{◌≡◌, ◌<◌, length, ap, ◌∙◌, arith, rules}
+use Rattle.std.proofs.Common.{◌<◌, length, ap, ◌∙◌, rules}
 use Rattle.model_core.specs.Lists.{changed_at}
 use Rattle.model_core.proofs.RosterLemmas.{changed_more, length-changed}
 use Rattle.model_core.proofs.roster.Roster.change_each.Goals as goal

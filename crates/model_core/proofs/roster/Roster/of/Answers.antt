@@ -1,7 +1,7 @@
-use Rattle.std.proofs.Common.{◌≡◌, ◌<◌, length, refl, Some, slice_get, take, ◌++◌, ◌∷◌, [], sym, ap, ◌∙◌, rules}
+use Rattle.std.proofs.Common.{◌≡◌, ◌<◌, length, refl, Some, slice_get, sym, ap, ◌∙◌, rules}
 use Rattle.std.proofs.lemmas.Option.{slice_get_read}
 use Rattle.model_core.specs.Lists.{find}
-use Rattle.model_core.proofs.RosterLemmas.{find-before, take-more}
+use Rattle.model_core.proofs.RosterLemmas.{find-before}
 use Rattle.model_core.proofs.roster.Roster.of.Goals as goal
 
 pub push-requires : goal.push-requires

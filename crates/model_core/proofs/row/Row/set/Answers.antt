@@ -1,4 +1,4 @@
-use Rattle.std.proofs.Common.{◌≡◌, ◌<◌, Some, slice_set, ap, ◌∙◌, rules, arith}
+use Rattle.std.proofs.Common.{◌<◌, Some, slice_set, ap, ◌∙◌, rules}
 use Rattle.model_core.proofs.RowLemmas.{take-set}
 use Rattle.model_core.proofs.row.Row.set.Goals as goal
 
