@@ -13,3 +13,8 @@ pub mod CutLemmas
 pub mod ClosedRowLemmas
 pub mod ClosedLemmas
 pub mod ThresholdRowLemmas
+pub mod PassLemmas
+pub mod WeightLemmas
+pub mod TagSums
+pub mod OwnRows
+pub mod CarryLemmas

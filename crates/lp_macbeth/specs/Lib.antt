@@ -3,3 +3,5 @@ pub mod Pairs
 pub mod Rows
 pub mod Threshold
 pub mod Closed
+pub mod Passing
+pub mod Translated

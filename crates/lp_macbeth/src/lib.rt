@@ -4,12 +4,16 @@
 mod closed;
 mod gap_rows;
 mod gaps;
+mod kinds;
 pub mod laws;
 mod pairs;
+mod passing;
 mod tags;
 mod threshold;
 mod threshold_lists;
 mod threshold_tags;
+mod translation;
+mod weight;
 
 pub use closed::closed_problem;
 pub use frac128::NoMemory;
@@ -17,6 +21,7 @@ pub use gap_rows::{problem, rows};
 pub use tags::judged_tags;
 pub use threshold::threshold_problem;
 pub use threshold_tags::ThresholdTag;
+pub use translation::translate;
 
 #[cfg(test)]
 mod tests;
