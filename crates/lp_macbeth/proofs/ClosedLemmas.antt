@@ -77,36 +77,39 @@ lower_in_unit_zero m x nonneg =
     let none : pos (range_at m pair.0 pair.1).lo *ℤ pos 0 ≡ pos 0 = *ℤ-zero (pos (range_at m pair.0 pair.1).lo) in
     omega (arith, lin, up, none)))
 
--- the compared rows and the judgements in unit 0
-compared_iff_met : (m : Judgements) (x : List ℤ) (r n : ℤ) → suc (length x) ≡ m.size → AreNonNegative x → All (IsRowMetBy (x ++ r ∷ []) n) (map (closed_row_of m) (closed_tags m)) ↔ IsMetInUnit m (pos 0) (scale_of x)
-compared_iff_met m x r n each nonneg = (to, from)
+-- rows at a point that say what the rows of Zero and Cross say in unit 0, and the judgements in unit 0
+pub compared_iff_met : (m : Judgements) (x z : List ℤ) (n : ℤ) (R : Tag → Row) → ((tag : Tag) → IsTagAmong m.size tag → IsRowMetBy z n (R tag) ↔ IsRowMetBy x (pos 0) (row_of m tag))
+    → suc (length x) ≡ m.size → AreNonNegative x → All (IsRowMetBy z n) (map R (closed_tags m)) ↔ IsMetInUnit m (pos 0) (scale_of x)
+compared_iff_met m x z n R says each nonneg = (to, from)
   where
-    to : All (IsRowMetBy (x ++ r ∷ []) n) (map (closed_row_of m) (closed_tags m)) → IsMetInUnit m (pos 0) (scale_of x)
+    to : All (IsRowMetBy z n) (map R (closed_tags m)) → IsMetInUnit m (pos 0) (scale_of x)
     to h =
-        let z : List ℤ = x ++ r ∷ [] in
         let Q : Tag → Type 0 = λ tag. IsRowMetBy x (pos 0) (row_of m tag) in
         let among = every_from_All (IsTagAmong m.size) (closed_tags m) (All-closed_tags m) in
-        let rows = every_from_map (IsRowMetBy z n) (closed_row_of m) (closed_tags m) (every_from_All (IsRowMetBy z n) (map (closed_row_of m) (closed_tags m)) h) in
-        let compared = every_both (IsTagAmong m.size) (λ tag. IsRowMetBy z n (closed_row_of m tag)) Q (λ tag a k. (closed_met_tag m x r n tag each a).0 k) (closed_tags m) among rows in
+        let rows = every_from_map (IsRowMetBy z n) R (closed_tags m) (every_from_All (IsRowMetBy z n) (map R (closed_tags m)) h) in
+        let compared = every_both (IsTagAmong m.size) (λ tag. IsRowMetBy z n (R tag)) Q (λ tag a k. (says tag a).0 k) (closed_tags m) among rows in
         let zero = every-append_left Q (zero_rows m) (cross_rows m) compared in
         let cross = every-append_right Q (zero_rows m) (cross_rows m) compared in
         let all = every-append Q (lower_rows m ++ zero_rows m) (cross_rows m) (every-append Q (lower_rows m) (zero_rows m) (lower_in_unit_zero m x nonneg) zero) cross in
         (met_where_rows_are m x (pos 0) each (≤ℤ_refl (pos 0))).0 (nonneg, All-from_every (IsRowMetBy x (pos 0)) (map (row_of m) (judged_rows m)) (every-map (IsRowMetBy x (pos 0)) (row_of m) (judged_rows m) all))
 
-    from : IsMetInUnit m (pos 0) (scale_of x) → All (IsRowMetBy (x ++ r ∷ []) n) (map (closed_row_of m) (closed_tags m))
+    from : IsMetInUnit m (pos 0) (scale_of x) → All (IsRowMetBy z n) (map R (closed_tags m))
     from h =
-        let z : List ℤ = x ++ r ∷ [] in
         let Q : Tag → Type 0 = λ tag. IsRowMetBy x (pos 0) (row_of m tag) in
         let among = every_from_All (IsTagAmong m.size) (closed_tags m) (All-closed_tags m) in
         let rows = ((met_where_rows_are m x (pos 0) each (≤ℤ_refl (pos 0))).1 h).1 in
         let all = every_from_map (IsRowMetBy x (pos 0)) (row_of m) (judged_rows m) (every_from_All (IsRowMetBy x (pos 0)) (map (row_of m) (judged_rows m)) rows) in
         let front = every-append_left Q (lower_rows m ++ zero_rows m) (cross_rows m) all in
         let compared = every-append Q (zero_rows m) (cross_rows m) (every-append_right Q (lower_rows m) (zero_rows m) front) (every-append_right Q (lower_rows m ++ zero_rows m) (cross_rows m) all) in
-        All-from_every (IsRowMetBy z n) (map (closed_row_of m) (closed_tags m)) (every-map (IsRowMetBy z n) (closed_row_of m) (closed_tags m)
-        (every_both (IsTagAmong m.size) Q (λ tag. IsRowMetBy z n (closed_row_of m tag)) (λ tag a k. (closed_met_tag m x r n tag each a).1 k) (closed_tags m) among compared))
+        All-from_every (IsRowMetBy z n) (map R (closed_tags m)) (every-map (IsRowMetBy z n) R (closed_tags m)
+        (every_both (IsTagAmong m.size) Q (λ tag. IsRowMetBy z n (R tag)) (λ tag a k. (says tag a).1 k) (closed_tags m) among compared))
+
+-- the same with the room
+compared_with_room : (m : Judgements) (x : List ℤ) (r n : ℤ) → suc (length x) ≡ m.size → AreNonNegative x → All (IsRowMetBy (x ++ r ∷ []) n) (map (closed_row_of m) (closed_tags m)) ↔ IsMetInUnit m (pos 0) (scale_of x)
+compared_with_room m x r n each nonneg = compared_iff_met m x (x ++ r ∷ []) n (closed_row_of m) (λ tag among. closed_met_tag m x r n tag each among) each nonneg
 
 -- a product that is given by two rows
-two_rows : (b v n : ℤ) → ((b *ℤ n) ≤ℤ v × (neg_ℤ b *ℤ n) ≤ℤ neg_ℤ v) ↔ (v ≡ n *ℤ b)
+pub two_rows : (b v n : ℤ) → ((b *ℤ n) ≤ℤ v × (neg_ℤ b *ℤ n) ≤ℤ neg_ℤ v) ↔ (v ≡ n *ℤ b)
 two_rows b v n =
     let turned : neg_ℤ b *ℤ n ≡ neg_ℤ (b *ℤ n) = neg_ℤ-*ℤ b n in
     let same : b *ℤ n ≡ n *ℤ b = *ℤ_comm b n in
@@ -153,7 +156,7 @@ closed_iff m good neutral reach a b x r n two references = (to, from)
         let re = reached each s refl in
         record {
           scale = IsScale-scale_of m x n each h.den_pos;
-          meets = (compared_iff_met m x r n each signs.0).0 parts.0;
+          meets = (compared_with_room m x r n each signs.0).0 parts.0;
           anchored = (two_rows (pos 100) d n).0 (subst (λ v. (pos 100 *ℤ n) ≤ℤ v) an.0 four.0, subst (λ v. (neg_ℤ (pos 100) *ℤ n) ≤ℤ v) an.1 four.1.0);
           room = All-head (λ c. pos 0 ≤ℤ c) r [] signs.1;
           reached = (two_rows (pos reach) s n).0 (subst (λ v. (pos reach *ℤ n) ≤ℤ v) re.0 four.1.1.0, subst (λ v. (neg_ℤ (pos reach) *ℤ n) ≤ℤ v) re.1 four.1.1.1.0);
@@ -184,5 +187,5 @@ closed_iff m good neutral reach a b x r n two references = (to, from)
           den_pos = h.scale.den_pos;
           one_each = length-append x (r ∷ []) ∙ omega (arith, each);
           nonneg = All-append (λ c. pos 0 ≤ℤ c) x (r ∷ []) nonneg (All-cons (λ c. pos 0 ≤ℤ c) r [] h.room (All-nil (λ c. pos 0 ≤ℤ c)));
-          meets = All-append Met (map (closed_row_of m) (closed_tags m)) _ ((compared_iff_met m x r n each nonneg).1 h.meets) (All-from_every Met (anchor_up m.size good neutral ∷ anchor_down m.size good neutral ∷ reach_up m.size reach ∷ reach_down m.size reach ∷ []) four);
+          meets = All-append Met (map (closed_row_of m) (closed_tags m)) _ ((compared_with_room m x r n each nonneg).1 h.meets) (All-from_every Met (anchor_up m.size good neutral ∷ anchor_down m.size good neutral ∷ reach_up m.size reach ∷ reach_down m.size reach ∷ []) four);
         }

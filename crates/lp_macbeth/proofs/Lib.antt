@@ -12,6 +12,11 @@ pub mod ThresholdLemmas
 pub mod CutLemmas
 pub mod ClosedRowLemmas
 pub mod ClosedLemmas
+pub mod WeightingRowLemmas
+pub mod LeastGapLemmas
+pub mod WeightSumLemmas
+pub mod CostLemmas
+pub mod WeightingLemmas
 pub mod ThresholdRowLemmas
 pub mod PassLemmas
 pub mod WeightLemmas

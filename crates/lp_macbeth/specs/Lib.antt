@@ -5,3 +5,4 @@ pub mod Threshold
 pub mod Closed
 pub mod Passing
 pub mod Translated
+pub mod ClosedWeighting

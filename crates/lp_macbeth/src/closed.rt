@@ -81,8 +81,8 @@ fn closed_row(alloc: Global, matrix: &Matrix, tag: Tag) -> Result<Row, NoMemory>
     })
 }
 
-// Adds the coefficients of a tag's constraint.
-fn push_coefs(coefs: &mut Vec<i128>, matrix: &Matrix, tag: Tag) -> Result<(), NoMemory>
+/// Adds the coefficients of a tag's constraint.
+pub(crate) fn push_coefs(coefs: &mut Vec<i128>, matrix: &Matrix, tag: Tag) -> Result<(), NoMemory>
     requires { IsTagAmong matrix.now.size tag }
     ensures { IfOk result (λ _. coefs.new.items
         ≡ coefs.old.items ++ (row_of matrix.now tag).coefs) }

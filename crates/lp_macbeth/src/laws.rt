@@ -1,16 +1,23 @@
 //! What the definitions in the contracts amount to: functions that do nothing, whose contracts are the laws.
 
-ghost use Rattle.std.specs.Prelude.{◌≡◌, ◌≤◌, ◌-◌, ◌↔◌, ◌++◌, ◌∷◌, [], List, ℤ, pos, ◌≤ℤ◌, take};
-ghost use Rattle.frac128.specs.Problem.{IsFeasible, IsInfeasible, IsLeast, cost_and_numbers};
+ghost use Rattle.std.specs.Prelude.{◌≡◌, ◌≤◌, ◌-◌, ◌↔◌, ◌++◌, ◌∷◌, [], List, ℤ, pos, ◌*ℤ◌, ◌≤ℤ◌, ◌<ℤ◌, length, take, Ok};
+ghost use Rattle.frac128.specs.Problem.{IsFeasible, IsInfeasible, IsLeast, cost_and_numbers, cost_at};
+ghost use Rattle.frac128.specs.Range.{IsInRange};
+ghost use Rattle.integers.specs.Fraction.{IsWriting, SameFraction, fraction_of};
 ghost use Rattle.integers.specs.Lexicographic.{LexLess};
 ghost use Rattle.judgement_matrix.specs.Least.{IsSmaller, IsLeastScale};
 ghost use Rattle.judgement_matrix.specs.Matrix.{IsPair};
 ghost use Rattle.judgement_matrix.specs.Scale.{IsScale, IsMetInUnit, IsMetBy, IsInconsistent};
 ghost use Rattle.lp_macbeth.specs.Closed.{closed_problem_of, IsClosedScale};
+ghost use Rattle.integers.specs.Vector.{dot};
+ghost use Rattle.lp_macbeth.specs.ClosedWeighting.{IsOrder, checked_weighting, weights_of, in_order, IsClosedWeighting, IsLeastOf, AreCostNumbers, weighted_gap};
 ghost use Rattle.lp_macbeth.specs.Gaps.{scale_of, gaps_of};
 ghost use Rattle.lp_macbeth.specs.Rows.{problem_of};
 ghost use Rattle.lp_macbeth.specs.Threshold.{threshold_problem_of};
 
+use crate::ClosedWeighting;
+use frac128::Frac;
+use frac128::laws::are_fractions;
 use judgement_matrix::Matrix;
 
 /// States that gaps are a feasible point of a matrix's problem exactly where their sums from the bottom are a scale that
@@ -75,3 +82,54 @@ pub fn closed_points_are_closed_scales(
     ensures units { (w : List ℤ) (u : ℤ) → pos 0 ≤ℤ u
         → IsMetInUnit matrix.now u w → IsMetInUnit matrix.now (pos 0) w }
 {}
+
+/// States that a point of a weighting's closed problem is a list of weights of the closure, none below 0 and of sum 1, which with 0
+/// added last meet the matrix in unit 0, and that gaps and weights make each other; and that each unit of at least 0 asks for at
+/// least what the unit 0 asks for. It does nothing.
+pub fn closed_points_are_closed_weightings(
+    matrix: &Matrix,
+    order: &[usize],
+    gaps: &[Frac],
+    closed: &ClosedWeighting,
+)
+    requires gaps { length gaps.now ≡ matrix.now.size - 1 }
+    requires some { 1 ≤ length gaps.now }
+    requires made { checked_weighting matrix.now order.now gaps.now ≡ Ok closed.now }
+    ensures points { (x : List ℤ) (n : ℤ)
+        → IsFeasible closed.now.problem x n ↔ IsClosedWeighting matrix.now (weights_of x) n }
+    ensures weights { (k : List ℤ) → weights_of (gaps_of (k ++ pos 0 ∷ [])) ≡ k }
+    ensures gaps { (x : List ℤ) → gaps_of (weights_of x ++ pos 0 ∷ []) ≡ x }
+    ensures units { (w : List ℤ) (u : ℤ) → pos 0 ≤ℤ u
+        → IsMetInUnit matrix.now u w → IsMetInUnit matrix.now (pos 0) w }
+{
+    // For the proofs alone: the denominators are positive.
+    are_fractions(gaps);
+}
+
+/// States what the costs of a weighting's closed problem mean. Its least gap is one of the gaps, and none of them is below it; its
+/// scale is above 0. A point costs the sum of numbers times weights, where the numbers over the scale are each gap less the least
+/// one; so its cost over the scale, and the least gap, are the sum of gaps times weights, however the gaps are written. It does
+/// nothing.
+pub fn costs_are_weighted_gaps(
+    matrix: &Matrix,
+    order: &[usize],
+    gaps: &[Frac],
+    closed: &ClosedWeighting,
+)
+    requires gaps { length gaps.now ≡ matrix.now.size - 1 }
+    requires some { 1 ≤ length gaps.now }
+    requires order { IsOrder (length gaps.now) order.now }
+    requires made { checked_weighting matrix.now order.now gaps.now ≡ Ok closed.now }
+    ensures least { IsLeastOf gaps.now closed.now.least }
+    ensures scale { (pos 0 <ℤ closed.now.scale) × IsInRange closed.now.scale }
+    ensures numbers { (numbers : List ℤ)
+        × AreCostNumbers order.now gaps.now closed.now numbers }
+    ensures sum { (x : List ℤ) (n : ℤ) (g : List ℤ) (d : ℤ)
+        → IsFeasible closed.now.problem x n
+        → IsWriting (in_order (fraction_of (pos 0)) order.now gaps.now) g d
+        → SameFraction (weighted_gap closed.now (cost_at closed.now.problem x n))
+        (record { num = dot (weights_of x) g; den = n *ℤ d }) }
+{
+    // For the proofs alone: the denominators are positive.
+    are_fractions(gaps);
+}

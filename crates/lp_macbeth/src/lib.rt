@@ -14,6 +14,7 @@ mod threshold_lists;
 mod threshold_tags;
 mod translation;
 mod weight;
+mod weighting;
 
 pub use closed::closed_problem;
 pub use frac128::NoMemory;
@@ -22,6 +23,9 @@ pub use tags::judged_tags;
 pub use threshold::threshold_problem;
 pub use threshold_tags::ThresholdTag;
 pub use translation::translate;
+pub use weighting::{ClosedWeighting, WeightingFault, closed_weighting};
 
 #[cfg(test)]
 mod tests;
+#[cfg(test)]
+mod weighting_tests;
