@@ -47,21 +47,26 @@ pub record AreExcesses (least : Fraction) (gaps excesses : List Fraction) : Type
   pub same : SameFractions excesses (differences_from least gaps)
 
 -- a difference from the least is at least 0
-excess_nonneg : (least gap excess : Fraction) → IsFraction least → IsFraction gap → IsFraction excess → FractionAtMost least gap → SameFraction excess (fraction_difference gap least) → IsNotBelowZero excess
+excess_nonneg : (least gap excess : Fraction) → IsFraction least → IsFraction gap → IsFraction excess → FractionAtMost least gap
+    → SameFraction excess (fraction_difference gap least) → IsNotBelowZero excess
 excess_nonneg least gap excess pl pg pe most same =
     nonneg_of_mul excess.num (gap.den *ℤ least.den) (mul_pos gap.den least.den pg pl)
-    (subst (λ z. pos 0 ≤ℤ z) (sym same) (mul_nonneg (fraction_difference gap least).num excess.den ((FractionAtMost-difference least gap).0 most) (le_of_lt (pos 0) excess.den pe)))
+    (subst (λ z. pos 0 ≤ℤ z) (sym same) (mul_nonneg (fraction_difference gap least).num excess.den ((FractionAtMost-difference least gap).0 most)
+    (le_of_lt (pos 0) excess.den pe)))
 
-pub excesses_are : (least : Fraction) (gaps : List Fraction) → IsFraction least → AreFractions gaps → All (FractionAtMost least) gaps → IfOk (checked_excesses least gaps) (AreExcesses least gaps)
+pub excesses_are : (least : Fraction) (gaps : List Fraction) → IsFraction least → AreFractions gaps → All (FractionAtMost least) gaps
+    → IfOk (checked_excesses least gaps) (AreExcesses least gaps)
 unfolding checked_excesses
 excesses_are least [] pl pg most = record { fractions = All-nil IsFraction; nonneg = All-nil IsNotBelowZero; same = tt }
 excesses_are least (gap ∷ gaps) pl pg most =
     let first = All-head IsFraction gap gaps pg in
-    IfOk-bind (checked_difference gap least) (λ excess. (checked_excesses least gaps) >>= (λ others. Ok (excess ∷ others))) (IsValued (fraction_difference gap least)) (AreExcesses least (gap ∷ gaps)) (checked_difference-value gap least first pl) (λ excess h.
+    IfOk-bind (checked_difference gap least) (λ excess. (checked_excesses least gaps) >>= (λ others. Ok (excess ∷ others)))
+    (IsValued (fraction_difference gap least)) (AreExcesses least (gap ∷ gaps)) (checked_difference-value gap least first pl) (λ excess h.
     IfOk-bind (checked_excesses least gaps) (λ others. Ok (excess ∷ others)) (AreExcesses least gaps) (AreExcesses least (gap ∷ gaps))
     (excesses_are least gaps pl (All-tail IsFraction gap gaps pg) (All-tail (FractionAtMost least) gap gaps most)) (λ others k. record {
       fractions = All-cons IsFraction excess others h.0 k.fractions;
-      nonneg = All-cons IsNotBelowZero excess others (excess_nonneg least gap excess pl first h.0 (All-head (FractionAtMost least) gap gaps most) h.1) k.nonneg;
+      nonneg = All-cons IsNotBelowZero excess others (excess_nonneg least gap excess pl first h.0 (All-head (FractionAtMost least) gap gaps most) h.1)
+          k.nonneg;
       same = (h.1, k.same);
     }))
 
@@ -76,7 +81,8 @@ int_div_is : (m z q : ℤ) → pos 0 <ℤ z → m ≡ q *ℤ z → int_div m z �
 int_div_is m z q pz is =
     let d : ℕ = unsigned_abs z in
     let same : pos d ≡ z = pos-unsigned_abs z (le_of_lt (pos 0) z pz) in
-    ap (int_div m) (sym same) ∙ ap (λ y. int_div y (pos d)) (is ∙ ap (λ y. q *ℤ y) (sym same) ∙ ring2 (λ q d. q ⊗ d ≗ d ⊗ q) refl q (pos d)) ∙ int_div-mul q d (unsigned_abs_pos z pz)
+    ap (int_div m) (sym same) ∙ ap (λ y. int_div y (pos d)) (is ∙ ap (λ y. q *ℤ y) (sym same) ∙ ring2 (λ q d. q ⊗ d ≗ d ⊗ q) refl q (pos d)) ∙ int_div-mul q
+    d (unsigned_abs_pos z pz)
 
 IsMultiple-trans : (a b c : ℤ) → IsMultiple a b → IsMultiple b c → IsMultiple a c
 IsMultiple-trans a b c (p, e) (q, f) = (p *ℤ q, e ∙ ap (λ y. p *ℤ y) f ∙ ring3 (λ p q c. p ⊗ (q ⊗ c) ≗ p ⊗ q ⊗ c) refl p q c)
@@ -111,11 +117,21 @@ pub record IsCommon (l : ℤ) (es : List Fraction) (m : ℤ) : Type 0 where
 
 pub multiple_is : (l : ℤ) (es : List Fraction) → pos 0 <ℤ l → IsInRange l → AreFractions es → IfOk (checked_multiple l es) (IsCommon l es)
 unfolding checked_multiple
-multiple_is l [] pl rl pe = record { positive = pl; in_range = rl; of_number = (pos 1, ring1 (λ l. l ≗ con (pos 1) ⊗ l) refl l); of_each = All-nil (λ (e : Fraction). IsMultiple l e.den) }
+multiple_is l [] pl rl pe =
+    record {
+      positive = pl;
+      in_range = rl;
+      of_number = (pos 1, ring1 (λ l. l ≗ con (pos 1) ⊗ l) refl l);
+      of_each = All-nil
+          (λ (e : Fraction). IsMultiple l e.den);
+    }
 multiple_is l (e ∷ es) pl rl pe =
     let step = next_is l e.den pl (All-head IsFraction e es pe) in
-    IfOk-bind (checked_whole (int_div l (gcd_of l e.den) *ℤ e.den)) (λ next. checked_multiple next es) (λ next. IsNext l e.den next × IsInRange next) (IsCommon l (e ∷ es))
-    (IfOk-weaker (checked_whole (int_div l (gcd_of l e.den) *ℤ e.den)) (IsWhole (int_div l (gcd_of l e.den) *ℤ e.den)) (λ next. IsNext l e.den next × IsInRange next) (λ next h. (subst (IsNext l e.den) (sym h.0) step, subst IsInRange (sym h.0) h.1)) (checked_whole-is (int_div l (gcd_of l e.den) *ℤ e.den)))
+    IfOk-bind (checked_whole (int_div l (gcd_of l e.den) *ℤ e.den)) (λ next. checked_multiple next es) (λ next. IsNext l e.den next × IsInRange next)
+    (IsCommon l (e ∷ es))
+    (IfOk-weaker (checked_whole (int_div l (gcd_of l e.den) *ℤ e.den)) (IsWhole (int_div l (gcd_of l e.den) *ℤ e.den))
+    (λ next. IsNext l e.den next × IsInRange next) (λ next h. (subst (IsNext l e.den) (sym h.0) step, subst IsInRange (sym h.0) h.1))
+    (checked_whole-is (int_div l (gcd_of l e.den) *ℤ e.den)))
     (λ next n. IfOk-weaker (checked_multiple next es) (IsCommon next es) (IsCommon l (e ∷ es))
     (λ m h. record {
       positive = h.positive;
@@ -141,17 +157,20 @@ numerator_nonneg : (m n : ℤ) (e : Fraction) → pos 0 <ℤ m → IsFraction e 
 numerator_nonneg m n e pm pe low is =
     nonneg_of_mul n e.den pe (subst (λ z. pos 0 ≤ℤ z) (sym is) (mul_nonneg e.num m low (le_of_lt (pos 0) m pm)))
 
-pub numerators_are : (m : ℤ) (es : List Fraction) → pos 0 <ℤ m → AreFractions es → All IsNotBelowZero es → All (λ (e : Fraction). IsMultiple m e.den) es → IfOk (checked_numerators m es) (AreNumerators m es)
+pub numerators_are : (m : ℤ) (es : List Fraction) → pos 0 <ℤ m → AreFractions es → All IsNotBelowZero es → All (λ (e : Fraction). IsMultiple m e.den) es
+    → IfOk (checked_numerators m es) (AreNumerators m es)
 unfolding checked_numerators
 numerators_are m [] pm pe low each = record { nonneg = All-nil (λ z. pos 0 ≤ℤ z); same = tt }
 numerators_are m (e ∷ es) pm pe low each =
     let z : ℤ = e.num *ℤ int_div m e.den in
     let first = All-head IsFraction e es pe in
     let same = numerator_same m e first (All-head (λ (e : Fraction). IsMultiple m e.den) e es each) in
-    IfOk-bind (checked_whole z) (λ numerator. (checked_numerators m es) >>= (λ others. Ok (numerator ∷ others))) (IsWhole z) (AreNumerators m (e ∷ es)) (checked_whole-is z) (λ n h.
+    IfOk-bind (checked_whole z) (λ numerator. (checked_numerators m es) >>= (λ others. Ok (numerator ∷ others))) (IsWhole z) (AreNumerators m (e ∷ es))
+    (checked_whole-is z) (λ n h.
     let is : n *ℤ e.den ≡ e.num *ℤ m = ap (λ y. y *ℤ e.den) h.0 ∙ same in
     IfOk-bind (checked_numerators m es) (λ others. Ok (n ∷ others)) (AreNumerators m es) (AreNumerators m (e ∷ es))
-    (numerators_are m es pm (All-tail IsFraction e es pe) (All-tail IsNotBelowZero e es low) (All-tail (λ (e : Fraction). IsMultiple m e.den) e es each)) (λ others k. record {
+    (numerators_are m es pm (All-tail IsFraction e es pe) (All-tail IsNotBelowZero e es low) (All-tail (λ (e : Fraction). IsMultiple m e.den) e es each))
+    (λ others k. record {
       nonneg = All-cons (λ z. pos 0 ≤ℤ z) n others (numerator_nonneg m n e pm first (All-head IsNotBelowZero e es low) is) k.nonneg;
       same = (is, k.same);
     }))
@@ -166,7 +185,8 @@ sums_are : (s : ℤ) (xs : List ℤ) → IfOk (checked_sums s xs) (AreSums s xs)
 unfolding checked_sums
 sums_are s [] = (refl, All-nil IsInRange)
 sums_are s (x ∷ xs) =
-    IfOk-bind (checked_whole (s +ℤ x)) (λ sum. (checked_sums sum xs) >>= (λ others. Ok (sum ∷ others))) (IsWhole (s +ℤ x)) (AreSums s (x ∷ xs)) (checked_whole-is (s +ℤ x)) (λ sum h.
+    IfOk-bind (checked_whole (s +ℤ x)) (λ sum. (checked_sums sum xs) >>= (λ others. Ok (sum ∷ others))) (IsWhole (s +ℤ x)) (AreSums s (x ∷ xs))
+    (checked_whole-is (s +ℤ x)) (λ sum h.
     IfOk-bind (checked_sums sum xs) (λ others. Ok (sum ∷ others)) (AreSums sum xs) (AreSums s (x ∷ xs)) (sums_are sum xs)
     (λ others k. (
       ap (λ zs. sum ∷ zs) k.0 ∙ ap (λ z. z ∷ running_sums z xs) h.0,

@@ -18,7 +18,8 @@ record IsLesser (f g least : Fraction) : Type 0 where
 lesser_is : (f g : Fraction) → IsLesser f g (lesser f g)
 lesser_is f g = by_order (int_cmp (g.num *ℤ f.den) (f.num *ℤ g.den)) (int_ranks (g.num *ℤ f.den) (f.num *ℤ g.den))
   where
-    by_order : (o : Ordering) → MatchOrdering o (FractionLess g f) (SameFraction g f) (FractionLess f g) → IsLesser f g (elim o [ Less ↦ g | Equal ↦ f | Greater ↦ f ])
+    by_order : (o : Ordering) → MatchOrdering o (FractionLess g f) (SameFraction g f) (FractionLess f g)
+        → IsLesser f g (elim o [ Less ↦ g | Equal ↦ f | Greater ↦ f ])
     by_order Less h = record { one = inr refl; first = FractionAtMost-from_less g f h; second = FractionAtMost-refl g }
     by_order Equal h = record { one = inl refl; first = FractionAtMost-refl f; second = FractionAtMost-from_same f g (SameFraction-sym g f h) }
     by_order Greater h = record { one = inl refl; first = FractionAtMost-refl f; second = FractionAtMost-from_less f g h }
@@ -31,7 +32,8 @@ IsFraction-lesser f g pf pg = from (lesser f g) ((lesser_is f g).one)
     from least (inr e) = subst IsFraction (sym e) pg
 
 -- the least of two or more is that of the lesser of the first two and the others
-joined : (f g least : Fraction) (gs : List Fraction) → IsFraction f → IsFraction g → IsFraction least → IsLeastOf (lesser f g ∷ gs) least → IsLeastOf (f ∷ g ∷ gs) least
+joined : (f g least : Fraction) (gs : List Fraction) → IsFraction f → IsFraction g → IsFraction least → IsLeastOf (lesser f g ∷ gs) least
+    → IsLeastOf (f ∷ g ∷ gs) least
 joined f g least gs pf pg pl h = record { among = place h.among; none_below = below }
   where
     both : IsLesser f g (lesser f g)
@@ -52,10 +54,12 @@ joined f g least gs pf pg pl h = record { among = place h.among; none_below = be
     below =
         let pm = IsFraction-lesser f g pf pg in
         All-cons (FractionAtMost least) f (g ∷ gs) (FractionAtMost-trans least (lesser f g) f pl pm pf first both.first)
-        (All-cons (FractionAtMost least) g gs (FractionAtMost-trans least (lesser f g) g pl pm pg first both.second) (All-tail (FractionAtMost least) (lesser f g) gs h.none_below))
+        (All-cons (FractionAtMost least) g gs (FractionAtMost-trans least (lesser f g) g pl pm pg first both.second)
+        (All-tail (FractionAtMost least) (lesser f g) gs h.none_below))
 
 least_from_is : (f : Fraction) (gs : List Fraction) → IsFraction f → AreFractions gs → IsFraction (least_from f gs) × IsLeastOf (f ∷ gs) (least_from f gs)
-least_from_is f [] pf pg = (pf, record { among = (0, omega arith, refl); none_below = All-cons (FractionAtMost f) f [] (FractionAtMost-refl f) (All-nil (FractionAtMost f)) })
+least_from_is f [] pf pg =
+    (pf, record { among = (0, omega arith, refl); none_below = All-cons (FractionAtMost f) f [] (FractionAtMost-refl f) (All-nil (FractionAtMost f)) })
 least_from_is f (g ∷ gs) pf pg =
     let first = All-head IsFraction g gs pg in
     let rest = least_from_is (lesser f g) gs (IsFraction-lesser f g pf first) (All-tail IsFraction g gs pg) in

@@ -49,16 +49,21 @@ pub record AreWeighed (order : List ℕ) (gaps : List Fraction) (least : Fractio
   pub costs : AreCosts (in_order (pos 0) order numbers) cost
 
 -- numerators over a common denominator are the excesses
-pub numerators_same : (least : Fraction) (gaps es : List Fraction) (l : ℤ) (numbers : List ℤ) → IsFraction least → AreFractions gaps → AreExcesses least gaps es → pos 0 <ℤ l → AreNumerators l es numbers → SameFractions (over numbers l) (differences_from least gaps)
+pub numerators_same : (least : Fraction) (gaps es : List Fraction) (l : ℤ) (numbers : List ℤ) → IsFraction least → AreFractions gaps
+    → AreExcesses least gaps es → pos 0 <ℤ l → AreNumerators l es numbers → SameFractions (over numbers l) (differences_from least gaps)
 numerators_same least gaps es l numbers pl pg e positive n =
-    SameFractions-trans (over numbers l) es (differences_from least gaps) (AreFractions-over numbers l positive) e.fractions (differences_positive gaps pg) n.same e.same
+    SameFractions-trans (over numbers l) es (differences_from least gaps) (AreFractions-over numbers l positive) e.fractions (differences_positive gaps pg)
+    n.same e.same
   where
     differences_positive : (gaps : List Fraction) → AreFractions gaps → AreFractions (differences_from least gaps)
-    differences_positive gaps pg = All-map IsFraction (λ f. fraction_difference f least) gaps (λ k d below. mul_pos (get_or gaps k d).den least.den (pg k d below) pl)
+    differences_positive gaps pg = All-map IsFraction (λ f. fraction_difference f least) gaps
+        (λ k d below. mul_pos (get_or gaps k d).den least.den (pg k d below) pl)
 
 -- the numbers that the formula gives
-numbers_are : (least : Fraction) (gaps es : List Fraction) (l : ℤ) (numbers : List ℤ) → IsFraction least → AreFractions gaps → AreExcesses least gaps es → IsCommon (pos 1) es l → AreNumerators l es numbers → AreNumbers gaps least l numbers
-numbers_are least gaps es l numbers pl pg e c n = record { positive = c.positive; in_range = c.in_range; nonneg = n.nonneg; same = numerators_same least gaps es l numbers pl pg e c.positive n }
+numbers_are : (least : Fraction) (gaps es : List Fraction) (l : ℤ) (numbers : List ℤ) → IsFraction least → AreFractions gaps → AreExcesses least gaps es
+    → IsCommon (pos 1) es l → AreNumerators l es numbers → AreNumbers gaps least l numbers
+numbers_are least gaps es l numbers pl pg e c n =
+    record { positive = c.positive; in_range = c.in_range; nonneg = n.nonneg; same = numerators_same least gaps es l numbers pl pg e c.positive n }
 
 one_above_zero : pos 0 <ℤ pos 1
 one_above_zero = omega (arith, lin)
@@ -66,7 +71,8 @@ one_above_zero = omega (arith, lin)
 one_in_range : IsInRange (pos 1)
 one_in_range = small_in_range (pos 1) (omega arith)
 
-pub numbers_given : (gaps : List Fraction) (least : Fraction) (es : List Fraction) (l : ℤ) (numbers : List ℤ) → 1 ≤ length gaps → AreFractions gaps → least ≡ least_of gaps
+pub numbers_given : (gaps : List Fraction) (least : Fraction) (es : List Fraction) (l : ℤ) (numbers : List ℤ) → 1 ≤ length gaps → AreFractions gaps
+    → least ≡ least_of gaps
     → checked_excesses least gaps ≡ Ok es → checked_multiple (pos 1) es ≡ Ok l → checked_numerators l es ≡ Ok numbers → AreNumbers gaps least l numbers
 numbers_given gaps least es l numbers some pg is a b c =
     let lowest = least_is gaps some pg in
@@ -78,12 +84,15 @@ numbers_given gaps least es l numbers some pg is a b c =
     numbers_are least gaps es l numbers pl pg e m n
 
 -- one number for each gap
-pub length-numbers : (least : Fraction) (gaps : List Fraction) (l : ℤ) (numbers : List ℤ) → SameFractions (over numbers l) (differences_from least gaps) → length numbers ≡ length gaps
+pub length-numbers : (least : Fraction) (gaps : List Fraction) (l : ℤ) (numbers : List ℤ) → SameFractions (over numbers l) (differences_from least gaps)
+    → length numbers ≡ length gaps
 length-numbers least gaps l numbers same =
-    sym (length-over numbers l) ∙ SameFractions-length (over numbers l) (differences_from least gaps) same ∙ length-map gaps (λ f. fraction_difference f least)
+    sym (length-over numbers l) ∙ SameFractions-length (over numbers l) (differences_from least gaps) same ∙ length-map gaps
+    (λ f. fraction_difference f least)
 
 -- what holds of all holds in any order
-pub All-in_order : {A : Type 0} (P : A → Type 0) (none : A) (order : List ℕ) (xs : List A) → All (λ c. c < length xs) order → All P xs → All P (in_order none order xs)
+pub All-in_order : {A : Type 0} (P : A → Type 0) (none : A) (order : List ℕ) (xs : List A) → All (λ c. c < length xs) order → All P xs
+    → All P (in_order none order xs)
 All-in_order P none order xs within all = All-map P (λ c. get_or xs c none) order (λ k d below. all (get_or order k d) none (within k d below))
 
 pub length-in_order : {A : Type 0} (none : A) (order : List ℕ) (xs : List A) → length (in_order none order xs) ≡ length order
@@ -95,7 +104,8 @@ pub record AreGapCosts (count : ℕ) (cost : List ℤ) : Type 0 where
   pub nonneg : AreNonNegative cost
   pub in_range : All IsInRange cost
 
-pub gap_costs_are : (order : List ℕ) (gaps : List Fraction) (least : Fraction) (l : ℤ) (numbers cost : List ℤ) → IsOrder (length gaps) order → AreWeighed order gaps least l numbers cost → AreGapCosts (length gaps) cost
+pub gap_costs_are : (order : List ℕ) (gaps : List Fraction) (least : Fraction) (l : ℤ) (numbers cost : List ℤ) → IsOrder (length gaps) order
+    → AreWeighed order gaps least l numbers cost → AreGapCosts (length gaps) cost
 gap_costs_are order gaps least l numbers cost o h =
     let listed = in_order (pos 0) order numbers in
     let sums = running_sums (pos 0) listed in
@@ -107,11 +117,17 @@ gap_costs_are order gaps least l numbers cost o h =
       in_range = h.costs.in_range;
     }
 
-pub gap_costs_given : (order : List ℕ) (gaps : List Fraction) (least : Fraction) (es : List Fraction) (l : ℤ) (numbers cost : List ℤ) → 1 ≤ length gaps → AreFractions gaps → IsOrder (length gaps) order → least ≡ least_of gaps
-    → checked_excesses least gaps ≡ Ok es → checked_multiple (pos 1) es ≡ Ok l → checked_numerators l es ≡ Ok numbers → checked_costs (in_order (pos 0) order numbers) ≡ Ok cost → AreGapCosts (length gaps) cost
+pub gap_costs_given : (order : List ℕ) (gaps : List Fraction) (least : Fraction) (es : List Fraction) (l : ℤ) (numbers cost : List ℤ) → 1 ≤ length gaps
+    → AreFractions gaps → IsOrder (length gaps) order → least ≡ least_of gaps
+    → checked_excesses least gaps ≡ Ok es → checked_multiple (pos 1) es ≡ Ok l → checked_numerators l es ≡ Ok numbers
+    → checked_costs (in_order (pos 0) order numbers) ≡ Ok cost → AreGapCosts (length gaps) cost
 gap_costs_given order gaps least es l numbers cost some pg o is a b c d =
     gap_costs_are order gaps least l numbers cost o
-    (record { are = numbers_given gaps least es l numbers some pg is a b c; costs = IfOk-at_ok (AreCosts (in_order (pos 0) order numbers)) d (costs_are (in_order (pos 0) order numbers)) })
+    (record {
+      are = numbers_given gaps least es l numbers some pg is a b c;
+      costs = IfOk-at_ok (AreCosts (in_order (pos 0) order numbers)) d
+          (costs_are (in_order (pos 0) order numbers));
+    })
 
 -- ---- what the formula gives
 
@@ -121,22 +137,27 @@ pub record IsWeighting (m : Judgements) (order : List ℕ) (gaps : List Fraction
   pub problem : closed.problem ≡ weighting_problem_of m closed.problem.cost
   pub weighed : (numbers : List ℤ) × AreWeighed order gaps closed.least closed.scale numbers closed.problem.cost
 
-pub weighting_is : (m : Judgements) (order : List ℕ) (gaps : List Fraction) → 1 ≤ length gaps → AreFractions gaps → IfOk (checked_weighting m order gaps) (IsWeighting m order gaps)
+pub weighting_is : (m : Judgements) (order : List ℕ) (gaps : List Fraction) → 1 ≤ length gaps → AreFractions gaps
+    → IfOk (checked_weighting m order gaps) (IsWeighting m order gaps)
 unfolding checked_weighting
 weighting_is m order gaps some pg =
     let mu = least_of gaps in
     let lowest = least_is gaps some pg in
     IfOk-bind (checked_excesses mu gaps) _ (AreExcesses mu gaps) (IsWeighting m order gaps) (excesses_are mu gaps lowest.0 pg lowest.1.none_below) (λ es e.
-    IfOk-bind (checked_multiple (pos 1) es) _ (IsCommon (pos 1) es) (IsWeighting m order gaps) (multiple_is (pos 1) es one_above_zero one_in_range e.fractions) (λ l c.
-    IfOk-bind (checked_numerators l es) _ (AreNumerators l es) (IsWeighting m order gaps) (numerators_are l es c.positive e.fractions e.nonneg c.of_each) (λ numbers n.
-    IfOk-bind (checked_costs (in_order (pos 0) order numbers)) _ (AreCosts (in_order (pos 0) order numbers)) (IsWeighting m order gaps) (costs_are (in_order (pos 0) order numbers)) (λ cost k. record {
+    IfOk-bind (checked_multiple (pos 1) es) _ (IsCommon (pos 1) es) (IsWeighting m order gaps)
+    (multiple_is (pos 1) es one_above_zero one_in_range e.fractions) (λ l c.
+    IfOk-bind (checked_numerators l es) _ (AreNumerators l es) (IsWeighting m order gaps) (numerators_are l es c.positive e.fractions e.nonneg c.of_each)
+    (λ numbers n.
+    IfOk-bind (checked_costs (in_order (pos 0) order numbers)) _ (AreCosts (in_order (pos 0) order numbers)) (IsWeighting m order gaps)
+    (costs_are (in_order (pos 0) order numbers)) (λ cost k. record {
       least = refl;
       problem = refl;
       weighed = (numbers, record { are = numbers_are mu gaps es l numbers lowest.0 pg e c n; costs = k });
     }))))
 
 -- the numbers in the law's words
-pub cost_numbers : (m : Judgements) (order : List ℕ) (gaps : List Fraction) (closed : ClosedWeighting) → IsOrder (length gaps) order → IsWeighting m order gaps closed → (numbers : List ℤ) × AreCostNumbers order gaps closed numbers
+pub cost_numbers : (m : Judgements) (order : List ℕ) (gaps : List Fraction) (closed : ClosedWeighting) → IsOrder (length gaps) order
+    → IsWeighting m order gaps closed → (numbers : List ℤ) × AreCostNumbers order gaps closed numbers
 cost_numbers m order gaps closed o h =
     let numbers = h.weighed.0 in
     let w = h.weighed.1 in (
@@ -144,14 +165,16 @@ cost_numbers m order gaps closed o h =
       record {
         nonneg = w.are.nonneg;
         same = w.are.same;
-        cost = λ x each. ap (λ c. dot c x) w.costs.is ∙ dot-costs (in_order (pos 0) order numbers) x (length-in_order (pos 0) order numbers ∙ o.each ∙ sym each);
+        cost = λ x each. ap (λ c. dot c x) w.costs.is ∙ dot-costs (in_order (pos 0) order numbers) x
+            (length-in_order (pos 0) order numbers ∙ o.each ∙ sym each);
       },
     )
 
 -- ---- costs and gaps
 
 -- the excesses in order
-in_order_same : (least : Fraction) (gaps : List Fraction) (l : ℤ) (numbers : List ℤ) (order : List ℕ) → pos 0 <ℤ l → SameFractions (over numbers l) (differences_from least gaps) → All (λ c. c < length gaps) order
+in_order_same : (least : Fraction) (gaps : List Fraction) (l : ℤ) (numbers : List ℤ) (order : List ℕ) → pos 0 <ℤ l
+    → SameFractions (over numbers l) (differences_from least gaps) → All (λ c. c < length gaps) order
     → SameFractions (over (in_order (pos 0) order numbers) l) (differences_from least (in_order (fraction_of (pos 0)) order gaps))
 in_order_same least gaps l numbers [] positive same within = tt
 in_order_same least gaps l numbers (c ∷ order) positive same within =
@@ -165,15 +188,19 @@ in_order_same least gaps l numbers (c ∷ order) positive same within =
     )
 
 -- a number over l and its gap y over d
-one_number : (number fd md fn mn l y d : ℤ) → pos 0 <ℤ fd → number *ℤ (fd *ℤ md) ≡ (fn *ℤ md -ℤ mn *ℤ fd) *ℤ l → y *ℤ fd ≡ fn *ℤ d → number *ℤ md *ℤ d ≡ l *ℤ (md *ℤ y -ℤ mn *ℤ d)
+one_number : (number fd md fn mn l y d : ℤ) → pos 0 <ℤ fd → number *ℤ (fd *ℤ md) ≡ (fn *ℤ md -ℤ mn *ℤ fd) *ℤ l → y *ℤ fd ≡ fn *ℤ d
+    → number *ℤ md *ℤ d ≡ l *ℤ (md *ℤ y -ℤ mn *ℤ d)
 one_number number fd md fn mn l y d pf a b =
     cancel_eq (number *ℤ md *ℤ d) (l *ℤ (md *ℤ y -ℤ mn *ℤ d)) fd pf
-    (combine8 (λ n fd md fn mn l y d. n ⊗ md ⊗ d ⊗ fd ≗ l ⊗ (md ⊗ y ⊖ mn ⊗ d) ⊗ fd ⇐ d ✶ (n ⊗ (fd ⊗ md) ≗ (fn ⊗ md ⊖ mn ⊗ fd) ⊗ l) ∷ neg (md ⊗ l) ✶ (y ⊗ fd ≗ fn ⊗ d) ∷ []) refl number fd md fn mn l y d a b)
+    (combine8 (λ n fd md fn mn l y d. n ⊗ md ⊗ d ⊗ fd ≗ l ⊗ (md ⊗ y ⊖ mn ⊗ d) ⊗ fd ⇐ d ✶ (n ⊗ (fd ⊗ md) ≗ (fn ⊗ md ⊖ mn ⊗ fd) ⊗ l) ∷ neg (md ⊗ l) ✶
+    (y ⊗ fd ≗ fn ⊗ d) ∷ []) refl number fd md fn mn l y d a b)
 
 -- numbers times weights
-all_numbers : (least : Fraction) (fs : List Fraction) (l : ℤ) (numbers g k : List ℤ) (d : ℤ) → AreFractions fs → SameFractions (over numbers l) (differences_from least fs) → SameFractions (over g d) fs → length k ≡ length fs
+all_numbers : (least : Fraction) (fs : List Fraction) (l : ℤ) (numbers g k : List ℤ) (d : ℤ) → AreFractions fs
+    → SameFractions (over numbers l) (differences_from least fs) → SameFractions (over g d) fs → length k ≡ length fs
     → dot numbers k *ℤ (least.den *ℤ d) ≡ l *ℤ (least.den *ℤ dot k g -ℤ least.num *ℤ d *ℤ int_sum k)
-all_numbers least [] l [] [] [] d pf same written each = ring4 (λ m l a d. con (pos 0) ⊗ (m ⊗ d) ≗ l ⊗ (m ⊗ con (pos 0) ⊖ a ⊗ d ⊗ con (pos 0))) refl least.den l least.num d
+all_numbers least [] l [] [] [] d pf same written each =
+    ring4 (λ m l a d. con (pos 0) ⊗ (m ⊗ d) ≗ l ⊗ (m ⊗ con (pos 0) ⊖ a ⊗ d ⊗ con (pos 0))) refl least.den l least.num d
 all_numbers least [] l (n ∷ numbers) g k d pf same written each = absurd same
 all_numbers least [] l [] (y ∷ g) k d pf same written each = absurd written
 all_numbers least [] l [] [] (x ∷ k) d pf same written each = absurd (omega (arith, each))
@@ -188,21 +215,27 @@ all_numbers least (f ∷ fs) l (n ∷ numbers) (y ∷ g) (x ∷ k) d pf same wri
     n x (dot numbers k) least.den d l y least.num (dot k g) (int_sum k) first rest
 
 -- over the scale, and with the least gap, the cost is the weighted sum of the gaps
-from_numbers : (t n l md mn d e s : ℤ) → s ≡ n → t *ℤ (md *ℤ d) ≡ l *ℤ (md *ℤ e -ℤ mn *ℤ d *ℤ s) → (t *ℤ pos 1 *ℤ md +ℤ mn *ℤ (n *ℤ l)) *ℤ (n *ℤ d) ≡ e *ℤ (n *ℤ l *ℤ md)
+from_numbers : (t n l md mn d e s : ℤ) → s ≡ n → t *ℤ (md *ℤ d) ≡ l *ℤ (md *ℤ e -ℤ mn *ℤ d *ℤ s)
+    → (t *ℤ pos 1 *ℤ md +ℤ mn *ℤ (n *ℤ l)) *ℤ (n *ℤ d) ≡ e *ℤ (n *ℤ l *ℤ md)
 from_numbers =
     combine8 (λ t n l md mn d e s. (t ⊗ con (pos 1) ⊗ md ⊕ mn ⊗ (n ⊗ l)) ⊗ (n ⊗ d) ≗ e ⊗ (n ⊗ l ⊗ md)
     ⇐ neg (n ⊗ l ⊗ mn ⊗ d) ✶ (s ≗ n) ∷ n ✶ (t ⊗ (md ⊗ d) ≗ l ⊗ (md ⊗ e ⊖ mn ⊗ d ⊗ s)) ∷ []) refl
 
-pub cost_is_weighted_gap : (order : List ℕ) (gaps : List Fraction) (closed : ClosedWeighting) (numbers x g : List ℤ) (n d : ℤ) → AreFractions gaps → IsOrder (length gaps) order → pos 0 <ℤ closed.scale → AreCostNumbers order gaps closed numbers → length x ≡ length gaps
-    → int_sum (weights_of x) ≡ n → IsWriting (in_order (fraction_of (pos 0)) order gaps) g d → SameFraction (weighted_gap closed (record { num = dot closed.problem.cost x; den = n })) (record { num = dot (weights_of x) g; den = n *ℤ d })
+pub cost_is_weighted_gap : (order : List ℕ) (gaps : List Fraction) (closed : ClosedWeighting) (numbers x g : List ℤ) (n d : ℤ) → AreFractions gaps
+    → IsOrder (length gaps) order → pos 0 <ℤ closed.scale → AreCostNumbers order gaps closed numbers → length x ≡ length gaps
+    → int_sum (weights_of x) ≡ n → IsWriting (in_order (fraction_of (pos 0)) order gaps) g d
+    → SameFraction (weighted_gap closed (record { num = dot closed.problem.cost x; den = n })) (record { num = dot (weights_of x) g; den = n *ℤ d })
 cost_is_weighted_gap order gaps closed numbers x g n d pg o positive h each sum written =
     let listed = in_order (fraction_of (pos 0)) order gaps in
     let k = weights_of x in
-    let long : length k ≡ length listed = length-reverse (running_sums (pos 0) x) ∙ length-running_sums (pos 0) x ∙ each ∙ sym (length-in_order (fraction_of (pos 0)) order gaps ∙ o.each) in
+    let long : length k ≡ length listed = length-reverse (running_sums (pos 0) x) ∙ length-running_sums (pos 0) x ∙ each ∙ sym
+    (length-in_order (fraction_of (pos 0)) order gaps ∙ o.each) in
     let same = in_order_same closed.least gaps closed.scale numbers order positive h.same o.within in
-    let all = all_numbers closed.least listed closed.scale (in_order (pos 0) order numbers) g k d (All-in_order IsFraction (fraction_of (pos 0)) order gaps o.within pg) same written.same long in
+    let all = all_numbers closed.least listed closed.scale (in_order (pos 0) order numbers) g k d
+    (All-in_order IsFraction (fraction_of (pos 0)) order gaps o.within pg) same written.same long in
     from_numbers (dot closed.problem.cost x) n closed.scale closed.least.den closed.least.num d (dot k g) (int_sum k) sum
-    (subst (λ t. t *ℤ (closed.least.den *ℤ d) ≡ closed.scale *ℤ (closed.least.den *ℤ dot k g -ℤ closed.least.num *ℤ d *ℤ int_sum k)) (sym (h.cost x each)) all)
+    (subst (λ t. t *ℤ (closed.least.den *ℤ d) ≡ closed.scale *ℤ (closed.least.den *ℤ dot k g -ℤ closed.least.num *ℤ d *ℤ int_sum k)) (sym (h.cost x each))
+    all)
 
 -- ---- points
 
@@ -248,10 +281,12 @@ times_one : (n : ℤ) → n *ℤ pos 1 ≡ n
 times_one n = ring1 (λ n. n ⊗ con (pos 1) ≗ n) refl n
 
 -- a point is a list of weights of the closure
-pub weighting_iff : (m : Judgements) (cost x : List ℤ) (n : ℤ) → 2 ≤ m.size → IsFeasible (weighting_problem_of m cost) x n ↔ IsClosedWeighting m (weights_of x) n
+pub weighting_iff : (m : Judgements) (cost x : List ℤ) (n : ℤ) → 2 ≤ m.size
+    → IsFeasible (weighting_problem_of m cost) x n ↔ IsClosedWeighting m (weights_of x) n
 weighting_iff m cost x n two = (to, from)
   where
-    compared : suc (length x) ≡ m.size → AreNonNegative x → All (IsRowMetBy x n) (map (weighting_row_of m) (closed_tags m)) ↔ IsMetInUnit m (pos 0) (scale_of x)
+    compared : suc (length x) ≡ m.size → AreNonNegative x
+        → All (IsRowMetBy x n) (map (weighting_row_of m) (closed_tags m)) ↔ IsMetInUnit m (pos 0) (scale_of x)
     compared each nonneg = compared_iff_met m x x n (weighting_row_of m) (λ tag among. weighting_met_tag m x n tag) each nonneg
 
     summed : suc (length x) ≡ m.size → dot (falling (m.size - 1)) x ≡ int_sum (weights_of x)
@@ -264,7 +299,8 @@ weighting_iff m cost x n two = (to, from)
         let each : suc (length x) ≡ m.size = omega (arith, h.one_each) in
         let parts = (All-parts (IsRowMetBy x n) (map (weighting_row_of m) (closed_tags m)) (sum_up (m.size - 1) ∷ sum_down (m.size - 1) ∷ [])).0 h.meets in
         let up = All-head (IsRowMetBy x n) (sum_up (m.size - 1)) (sum_down (m.size - 1) ∷ []) parts.1 in
-        let down = All-head (IsRowMetBy x n) (sum_down (m.size - 1)) [] (All-tail (IsRowMetBy x n) (sum_up (m.size - 1)) (sum_down (m.size - 1) ∷ []) parts.1) in
+        let down = All-head (IsRowMetBy x n) (sum_down (m.size - 1)) []
+        (All-tail (IsRowMetBy x n) (sum_up (m.size - 1)) (sum_down (m.size - 1) ∷ []) parts.1) in
         let s : ℤ = int_sum (weights_of x) in
         let up_s = subst (λ v. (pos 1 *ℤ n) ≤ℤ v) (summed each) up in
         let down_s = subst (λ v. (neg_ℤ (pos 1) *ℤ n) ≤ℤ v) (dot-opposite (falling (m.size - 1)) x ∙ ap neg_ℤ (summed each)) down in
@@ -290,23 +326,29 @@ weighting_iff m cost x n two = (to, from)
           den_pos = h.scale.den_pos;
           one_each = omega (arith, each);
           nonneg = nonneg;
-          meets = All-append (IsRowMetBy x n) (map (weighting_row_of m) (closed_tags m)) (sum_up (m.size - 1) ∷ sum_down (m.size - 1) ∷ []) ((compared each nonneg).1 met)
-              (All-cons (IsRowMetBy x n) (sum_up (m.size - 1)) (sum_down (m.size - 1) ∷ []) up (All-cons (IsRowMetBy x n) (sum_down (m.size - 1)) [] down (All-nil (IsRowMetBy x n))));
+          meets = All-append (IsRowMetBy x n) (map (weighting_row_of m) (closed_tags m)) (sum_up (m.size - 1) ∷ sum_down (m.size - 1) ∷ [])
+              ((compared each nonneg).1 met)
+              (All-cons (IsRowMetBy x n) (sum_up (m.size - 1)) (sum_down (m.size - 1) ∷ []) up
+              (All-cons (IsRowMetBy x n) (sum_down (m.size - 1)) [] down (All-nil (IsRowMetBy x n))));
         }
 
 -- ---- the laws, of what the formula gives
 
-pub points_of : (m : Judgements) (order : List ℕ) (gaps : List Fraction) (closed : ClosedWeighting) (x : List ℤ) (n : ℤ) → 2 ≤ m.size → IsWeighting m order gaps closed → IsFeasible closed.problem x n ↔ IsClosedWeighting m (weights_of x) n
+pub points_of : (m : Judgements) (order : List ℕ) (gaps : List Fraction) (closed : ClosedWeighting) (x : List ℤ) (n : ℤ) → 2 ≤ m.size
+    → IsWeighting m order gaps closed → IsFeasible closed.problem x n ↔ IsClosedWeighting m (weights_of x) n
 points_of m order gaps closed x n two h =
     subst (λ p. IsFeasible p x n ↔ IsClosedWeighting m (weights_of x) n) (sym h.problem) (weighting_iff m closed.problem.cost x n two)
 
-pub sum_of : (m : Judgements) (order : List ℕ) (gaps : List Fraction) (closed : ClosedWeighting) (x g : List ℤ) (n d : ℤ) → length gaps ≡ m.size - 1 → 2 ≤ m.size → AreFractions gaps → IsOrder (length gaps) order → IsWeighting m order gaps closed
-    → IsFeasible closed.problem x n → IsWriting (in_order (fraction_of (pos 0)) order gaps) g d → SameFraction (weighted_gap closed (cost_at closed.problem x n)) (record { num = dot (weights_of x) g; den = n *ℤ d })
+pub sum_of : (m : Judgements) (order : List ℕ) (gaps : List Fraction) (closed : ClosedWeighting) (x g : List ℤ) (n d : ℤ) → length gaps ≡ m.size - 1
+    → 2 ≤ m.size → AreFractions gaps → IsOrder (length gaps) order → IsWeighting m order gaps closed
+    → IsFeasible closed.problem x n → IsWriting (in_order (fraction_of (pos 0)) order gaps) g d
+    → SameFraction (weighted_gap closed (cost_at closed.problem x n)) (record { num = dot (weights_of x) g; den = n *ℤ d })
 sum_of m order gaps closed x g n d count two pg o h feasible written =
     let weights = (points_of m order gaps closed x n two h).0 feasible in
     let given = cost_numbers m order gaps closed o h in
     let vars : closed.problem.vars ≡ m.size - 1 = ap (λ (p : ProblemData). p.vars) h.problem in
     cost_is_weighted_gap order gaps closed given.0 x g n d pg o h.weighed.1.are.positive given.1 (feasible.one_each ∙ vars ∙ sym count) weights.sum written
 
-pub least_of_gaps : (m : Judgements) (order : List ℕ) (gaps : List Fraction) (closed : ClosedWeighting) → 1 ≤ length gaps → AreFractions gaps → IsWeighting m order gaps closed → IsLeastOf gaps closed.least
+pub least_of_gaps : (m : Judgements) (order : List ℕ) (gaps : List Fraction) (closed : ClosedWeighting) → 1 ≤ length gaps → AreFractions gaps
+    → IsWeighting m order gaps closed → IsLeastOf gaps closed.least
 least_of_gaps m order gaps closed some pg h = subst (IsLeastOf gaps) (sym h.least) (least_is gaps some pg).1

@@ -45,7 +45,8 @@ opposite_falling_in_range : (k : ℕ) → k ≤ 1000000 → All IsInRange (oppos
 opposite_falling_in_range zero h = All-nil IsInRange
 opposite_falling_in_range (suc k) h =
     let turned : negsuc 0 *ℤ pos (suc k) ≡ negsuc k = minus_one-*ℤ (pos (suc k)) in
-    All-cons IsInRange (negsuc 0 *ℤ pos (suc k)) (opposite (falling k)) (subst IsInRange (sym turned) (small_in_range (negsuc k) h)) (opposite_falling_in_range k (omega arith))
+    All-cons IsInRange (negsuc 0 *ℤ pos (suc k)) (opposite (falling k)) (subst IsInRange (sym turned) (small_in_range (negsuc k) h))
+    (opposite_falling_in_range k (omega arith))
 
 pub sums_fit : (k : ℕ) (rows : List Row) → k ≤ 1000000 → All (IsRow k) rows → All (IsRow k) (rows ++ sum_up k ∷ sum_down k ∷ [])
 sums_fit k rows most all =

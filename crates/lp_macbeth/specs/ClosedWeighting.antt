@@ -1,6 +1,6 @@
--- The problem that asks for the least weighted sum of the criteria's least gaps over the closure of the open weightings: lists of
--- weights, none below 0, of sum 1, that meet the weighting matrix in some unit of at least 0. Costs are whole numbers: each
--- least gap less the least of all, over one denominator.
+-- The problem that asks for the least weighted sum of the criteria's least gaps over the closure of the open
+-- weightings: lists of weights, none below 0, of sum 1, that meet the weighting matrix in some unit of at least 0.
+-- Costs are whole numbers: each least gap less the least of all, over one denominator.
 use Rattle.std.specs.Prelude.{◌≡◌, ℕ, zero, suc, ◌-◌, ◌<◌, eqb, true, false, ℤ, pos, ◌+ℤ◌, ◌*ℤ◌, int_div, neg_ℤ, List, [], ◌∷◌, ◌++◌, length, map, reverse, slice_index_or, All, Contains, Result, Ok, Err, IsTrue}
 use Rattle.std.specs.List.{IsDistinct}
 use Rattle.std.specs.Ordering.{int_cmp}
@@ -88,7 +88,8 @@ checked_excesses least (gap ∷ gaps) = do
   others ← checked_excesses least gaps
   Ok (excess ∷ others)
 
--- a common multiple of the number and the denominators, each in its turn: the number over their common divisor, times the denominator
+-- a common multiple of the number and the denominators, one after the other: the number over its common divisor with
+-- the denominator, times the denominator
 unfoldable pub checked_multiple : ℤ → List Fraction → Result ℤ TooWide
 checked_multiple l [] = Ok l
 checked_multiple l (e ∷ es) = do
@@ -147,17 +148,21 @@ differences_from least fs = map (λ f. fraction_difference f least) fs
 abbrev pub weights_of : List ℤ → List ℤ
 weights_of gaps = reverse (running_sums (pos 0) gaps)
 
--- numbers of at least 0, which over the scale are each gap less the least one, so that gaps cost the sum of numbers times weights
-pub record AreCostNumbers (order : List ℕ) (gaps : List Fraction) (closed : ClosedWeighting) (numbers : List ℤ) : Type 0 where
+-- numbers of at least 0, which over the scale are each gap less the least one; a point costs their sum, each times its
+-- weight
+pub record AreCostNumbers (order : List ℕ) (gaps : List Fraction) (closed : ClosedWeighting) (numbers : List ℤ)
+    : Type 0 where
   pub nonneg : AreNonNegative numbers
   pub same : SameFractions (over numbers closed.scale) (differences_from closed.least gaps)
-  pub cost : (x : List ℤ) → length x ≡ length gaps → dot closed.problem.cost x ≡ dot (in_order (pos 0) order numbers) (weights_of x)
+  pub cost : (x : List ℤ) → length x ≡ length gaps
+      → dot closed.problem.cost x ≡ dot (in_order (pos 0) order numbers) (weights_of x)
 
 -- what a cost says of the gaps: the cost over the scale, and the least gap
 abbrev pub weighted_gap : ClosedWeighting → Fraction → Fraction
 weighted_gap closed cost = fraction_sum (fraction_quotient cost (fraction_of closed.scale)) closed.least
 
--- k over n are weights of the closure: none is below 0, their sum is 1, and with 0 added last they meet the judgements in unit 0
+-- k over n are weights of the closure: none is below 0, their sum is 1, and with 0 added last they meet the judgements
+-- in unit 0
 pub record IsClosedWeighting (m : Judgements) (k : List ℤ) (n : ℤ) : Type 0 where
   pub scale : IsScale m (k ++ pos 0 ∷ []) n
   pub nonneg : AreNonNegative k
