@@ -23,3 +23,4 @@ pub mod WeightLemmas
 pub mod TagSums
 pub mod OwnRows
 pub mod CarryLemmas
+pub mod ThresholdProblemLemmas

@@ -1,6 +1,6 @@
 -- From the least point of the threshold problem to the least scale of the matrix and its span.
 use Rattle.std.specs.Result.{IfOk}
-use Rattle.std.proofs.Common.{◌≡◌, ℕ, zero, suc, ◌+◌, ◌-◌, ◌≤◌, ◌<◌, ℤ, pos, ◌<ℤ◌, List, [], ◌∷◌, take, length, get_or, refl, ap, subst, sym, ◌∙◌, All, Ok, arith}
+use Rattle.std.proofs.Common.{◌≡◌, inl, ℕ, zero, suc, ◌+◌, ◌-◌, ◌≤◌, ◌<◌, ℤ, pos, ◌<ℤ◌, List, [], ◌∷◌, take, length, get_or, refl, ap, subst, subst₂, sym, ◌∙◌, All, Result, Ok, Err, arith}
 use Rattle.std.proofs.lemmas.List.{take_all}
 use Rattle.std.proofs.lemmas.List.Elements.{All-take, All-get_or, All-head}
 use Rattle.std.proofs.lemmas.Result.{IfOk-weaker}
@@ -10,7 +10,7 @@ use Rattle.integers.proofs.Fractions.{SameFraction-sym, SameFraction-trans, Same
 use Rattle.std.specs.Int.Signed.{lt_z_yes}
 use Rattle.integers.proofs.Writings.{IsWriting-same, IsWriting-at, IsWriting-length}
 use Rattle.frac128.specs.Frac.{IsReduced}
-use Rattle.frac128.specs.Problem.{IsLeast, cost_at, combination, IsSpanCertificate}
+use Rattle.frac128.specs.Problem.{ProblemData, IsLeast, cost_at, combination, IsSpanCertificate}
 use Rattle.frac128.specs.declared.problem.Cert.{Cert}
 use Rattle.judgement_matrix.specs.Matrix.{Judgements}
 use Rattle.judgement_matrix.specs.Scale.{IsMetBy}
@@ -20,8 +20,17 @@ use Rattle.lp_macbeth.specs.Rows.{problem_of}
 use Rattle.lp_macbeth.specs.Threshold.{threshold_problem_of}
 use Rattle.lp_macbeth.proofs.GapLemmas.{dot-between, value_at-scale_of, length-scale_of}
 use Rattle.lex_simplex.specs.Answer.{IsLeastAnswer}
-use Rattle.value_scale.specs.Basic.{AreLeastValues, span, IsLeastWithProof, AreGapSums}
+use Rattle.lex_simplex.specs.Count.{capped_sum}
+use Rattle.lex_simplex.specs.Run.{IsSolved}
+use Rattle.lex_simplex.specs.declared.end.PivotFault.TheVariants as pivot
+use Rattle.lex_simplex.specs.declared.solver.SolveFault.{SolveFault}
+use Rattle.lex_simplex.specs.declared.solver.SolveFault.TheVariants as solve_fault
+use Rattle.lex_simplex.proofs.Runs.Counts.{capped_sum-counted}
+use Rattle.value_scale.specs.Basic.{AreLeastValues, span, IsLeastWithProof, AreGapSums, IsFoundBy}
 use Rattle.value_scale.specs.GapSums.{checked_values}
+use Rattle.value_scale.specs.declared.basic.Basic.{Basic}
+use Rattle.value_scale.specs.declared.fault.ScaleFault.{ScaleFault}
+use Rattle.value_scale.specs.declared.fault.ScaleFault.TheVariants as fault
 use Rattle.value_scale.proofs.GapLemmas.{IsWritten, values_written}
 
 -- ---- writings
@@ -140,3 +149,23 @@ scale_with_proof m alike compare scales s point value values on h pp pv ps reduc
     first_fraction : (fs : List Fraction) → AreFractions fs → IsFraction (span fs)
     first_fraction [] h = lt_z_yes tt
     first_fraction (f ∷ fs) h = All-head IsFraction f fs h
+
+-- ---- what was found, and the count
+
+-- a run that is too wide is found so
+pub too_wide_found : (m : Judgements) (p : ProblemData) (count after : ℕ) (told : SolveFault) → p ≡ threshold_problem_of m → told ≡ solve_fault.TooWide
+    → IsSolved p count (Err told) after → IsFoundBy m count (Err fault.TooWide) after
+too_wide_found m p count after told is wide h =
+    let run = subst₂ (λ q f. IsSolved q count (Err f) after) is wide h in
+    record { end = Err pivot.TooWide; pivots = run.0; run = run.1; counted = run.2; ends = inl refl }
+
+-- what was found with a count of its own is found with its pivots added
+pub added_to : (m : Judgements) (count none made after : ℕ) (answer : Result Basic ScaleFault) → none ≡ 0 → IsFoundBy m none answer made
+    → after ≡ capped_sum count made → IsFoundBy m count answer after
+added_to m count none made after answer is_none found added = record {
+  end = found.end;
+  pivots = found.pivots;
+  run = found.run;
+  counted = added ∙ ap (capped_sum count) (found.counted ∙ ap (λ n. capped_sum n found.pivots) is_none) ∙ capped_sum-counted count found.pivots;
+  ends = found.ends;
+}

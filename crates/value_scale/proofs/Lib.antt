@@ -1,5 +1,6 @@
 pub mod AnchorLaws
 pub mod AnchorLemmas
+pub mod AnswerLemmas
 pub mod BasicLemmas
 pub mod EachLemmas
 pub mod GapLemmas

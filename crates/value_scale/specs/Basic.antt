@@ -91,6 +91,12 @@ IsFound m count (Ok basic) after = IsBasic m basic × IsFoundBy m count (Ok basi
 IsFound m count (Err fault.TooWide) after = IsFoundBy m count (Err fault.TooWide) after
 IsFound m count (Err fault.NoMemory) after = after ≡ count
 
+-- the same with no count said where memory is wanted
+abbrev pub IsFoundOrNoMemory : Judgements → ℕ → Result Basic ScaleFault → ℕ → Type 0
+IsFoundOrNoMemory m count (Ok basic) after = IsFound m count (Ok basic) after
+IsFoundOrNoMemory m count (Err fault.TooWide) after = IsFound m count (Err fault.TooWide) after
+IsFoundOrNoMemory m count (Err fault.NoMemory) after = Unit {0}
+
 -- ---- one answer
 
 -- an answer other than that memory is wanted

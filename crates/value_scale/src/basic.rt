@@ -7,7 +7,7 @@ ghost use Rattle.lex_simplex.specs.Answer.{IsLeastAnswer, IsOutcome, end_of};
 ghost use Rattle.lp_macbeth.specs.Rows.{problem_of};
 ghost use Rattle.lp_macbeth.specs.Threshold.{threshold_problem_of};
 ghost use Rattle.value_scale.specs.Same.{is_same_basic};
-ghost use Rattle.value_scale.specs.Basic.{IsReadSo, Certifies};
+ghost use Rattle.value_scale.specs.Basic.{IsReadSo, Certifies, IsFound, IsFoundOrNoMemory};
 
 use crate::fault::ScaleFault;
 use crate::gap_sums::values_of;
@@ -16,8 +16,9 @@ use frac128::problem::Cert;
 use frac128::{Frac, List, NoMemory};
 use judgement_matrix::Matrix;
 use judgement_matrix::laws::{writings_compare_alike, writings_meet_alike};
-use lex_simplex::Outcome;
+use lex_simplex::{Count, Outcome, SolveFault, solve};
 use lp_macbeth::laws::thresholds_are_enough;
+use lp_macbeth::{threshold_problem, translate};
 use std::alloc::Global;
 
 /// What the judgements of a matrix give. Two are equal exactly where all that they hold is (`laws::are_equal_basics`).
@@ -147,5 +148,56 @@ pub fn basic_of_outcome(
             scale_from(alloc, matrix, point.as_slice(), value, cert)
         }
         Outcome::Nothing { .. } => Ok(refutation_from(matrix, cert)),
+    }
+}
+
+// The certificate of the outcome, carried to the matrix's own rows.
+fn carried(alloc: Global, matrix: &Matrix, outcome: &Outcome) -> Result<Cert, NoMemory>
+    requires size { 2 ≤ matrix.now.size }
+    requires outcome { IsOutcome (threshold_problem_of matrix.now) outcome.now }
+    ensures { IfOk result (Certifies matrix.now outcome.now) }
+{
+    match outcome {
+        Outcome::Least { cert, .. } => translate(alloc, matrix, cert),
+        Outcome::Nothing { cert } => translate(alloc, matrix, cert),
+    }
+}
+
+// The basic scale. Where memory is wanted the count may have risen.
+fn solved(alloc: Global, matrix: &Matrix, pivots: &mut Count) -> Result<Basic, ScaleFault>
+    requires { 2 ≤ matrix.now.size }
+    ensures { IsFoundOrNoMemory matrix.now pivots.old result pivots.new }
+{
+    let problem = threshold_problem(alloc, matrix)?;
+    match solve(alloc, &problem, pivots) {
+        Ok(outcome) => {
+            let cert = carried(alloc, matrix, &outcome)?;
+            basic_of_outcome(alloc, matrix, &outcome, cert)
+        }
+        Err(SolveFault::TooWide) => Err(ScaleFault::TooWide),
+        Err(SolveFault::NoMemory) => Err(ScaleFault::NoMemory),
+    }
+}
+
+/// The least scale of a matrix of at least two elements with a proof, or a proof that no scale meets it. It is too wide where the
+/// run of the threshold problem is, or a sum of gaps. The count rises by the pivots of that run, and after want of memory it is as
+/// before.
+pub fn basic_scale(alloc: Global, matrix: &Matrix, pivots: &mut Count) -> Result<Basic, ScaleFault>
+    requires { 2 ≤ matrix.now.size }
+    ensures { IsFound matrix.now pivots.old result pivots.new }
+{
+    let mut made = Count::new();
+    match solved(alloc, matrix, &mut made) {
+        Ok(basic) => {
+            pivots.add(&made);
+            return Ok(basic);
+        }
+        Err(ScaleFault::TooWide) => {
+            pivots.add(&made);
+            return Err(ScaleFault::TooWide);
+        }
+        Err(ScaleFault::NoMemory) => {
+            return Err(ScaleFault::NoMemory);
+        }
     }
 }

@@ -13,6 +13,8 @@ use crate::{Basic, ScaleFault};
 use frac128::Frac;
 use frac128::laws::are_fractions;
 use judgement_matrix::Matrix;
+use judgement_matrix::laws::{writings_compare_alike, writings_meet_alike};
+use lp_macbeth::laws::thresholds_are_enough;
 
 /// States that a scale has at most one anchored scale for two references. It does nothing.
 pub fn one_anchored_scale()
@@ -64,6 +66,20 @@ pub fn one_basic_scale(matrix: &Matrix)
         → IsAnswered first → IsAnswered second → IsFound matrix.now count first after
         → IsFound matrix.now count second later → TellTheSame first second × (after ≡ later) }
 {}
+
+/// States that each matrix of at least two elements has an answer other than that memory is wanted, for each count.
+/// It does nothing.
+pub fn every_matrix_has_an_answer(matrix: &Matrix)
+    requires { 2 ≤ matrix.now.size }
+    ensures { (count : ℕ) → (answer : Answer Basic ScaleFault) × (after : ℕ) × IsAnswered answer
+        × IsFound matrix.now count answer after }
+{
+    // What the proof rests on: laws, and what a matrix keeps.
+    thresholds_are_enough(matrix);
+    writings_meet_alike(matrix);
+    writings_compare_alike();
+    matrix.size();
+}
 
 /// Whether two basic scales are equal: exactly where they are one.
 pub fn are_equal_basics(a: &Basic, b: &Basic) -> bool

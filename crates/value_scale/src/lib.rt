@@ -3,6 +3,8 @@
 
 mod anchored_scale;
 mod basic;
+#[cfg(test)]
+mod basic_tests;
 mod fault;
 mod gap_sums;
 pub mod laws;
@@ -11,7 +13,8 @@ mod slacks;
 mod tests;
 
 pub use anchored_scale::{AnchorFault, anchor};
-pub use basic::{Basic, basic_of_outcome};
+pub use basic::{Basic, basic_of_outcome, basic_scale};
 pub use fault::ScaleFault;
 pub use frac128::NoMemory;
+pub use lex_simplex::Count;
 pub use slacks::{Interval, slack};
