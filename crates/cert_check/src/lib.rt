@@ -25,3 +25,5 @@ pub use verdict::{Place, Verdict};
 mod check_tests;
 #[cfg(test)]
 mod text_tests;
+#[cfg(test)]
+mod translate_tests;
