@@ -55,6 +55,50 @@ fn rows_of_three(rt: HostRuntime) -> Result<(), Fail> {
 }
 
 #[test]
+fn rows_of_hidden_conflict(rt: HostRuntime) -> Result<(), Fail> {
+    let mut matrix = Matrix::new(rt.alloc(), 4)?;
+    judge(&mut matrix, 1, 2, 3)?;
+    judge(&mut matrix, 1, 3, 4)?;
+    judge(&mut matrix, 1, 4, 6)?;
+    judge(&mut matrix, 2, 3, 1)?;
+    judge(&mut matrix, 2, 4, 5)?;
+    judge(&mut matrix, 3, 4, 2)?;
+    let rows = rows(rt.alloc(), &matrix)?;
+    let want: [(Tag, [i128; 3], i128); 24] = [
+        (Tag::Lower(1, 2), [0, 0, 1], 3),
+        (Tag::Lower(1, 3), [0, 1, 1], 4),
+        (Tag::Lower(1, 4), [1, 1, 1], 6),
+        (Tag::Lower(2, 3), [0, 1, 0], 1),
+        (Tag::Lower(2, 4), [1, 1, 0], 5),
+        (Tag::Lower(3, 4), [1, 0, 0], 2),
+        (Tag::Cross(1, 2, 2, 3), [0, -1, 1], 2),
+        (Tag::Cross(1, 2, 3, 4), [-1, 0, 1], 1),
+        (Tag::Cross(1, 3, 1, 2), [0, 1, 0], 1),
+        (Tag::Cross(1, 3, 2, 3), [0, 0, 1], 3),
+        (Tag::Cross(1, 3, 3, 4), [-1, 1, 1], 2),
+        (Tag::Cross(1, 4, 1, 2), [1, 1, 0], 3),
+        (Tag::Cross(1, 4, 1, 3), [1, 0, 0], 2),
+        (Tag::Cross(1, 4, 2, 3), [1, 0, 1], 5),
+        (Tag::Cross(1, 4, 2, 4), [0, 0, 1], 1),
+        (Tag::Cross(1, 4, 3, 4), [0, 1, 1], 4),
+        (Tag::Cross(2, 4, 1, 2), [1, 1, -1], 2),
+        (Tag::Cross(2, 4, 1, 3), [1, 0, -1], 1),
+        (Tag::Cross(2, 4, 2, 3), [1, 0, 0], 4),
+        (Tag::Cross(2, 4, 3, 4), [0, 1, 0], 3),
+        (Tag::Cross(3, 4, 2, 3), [1, -1, 0], 1),
+        (Tag::Order(1), [0, 0, 1], 0),
+        (Tag::Order(2), [0, 1, 0], 0),
+        (Tag::Order(3), [1, 0, 0], 0),
+    ];
+    assert_eq!(rt; rows.len(), want.len());
+    for ((tag, row), (named, coefs, bound)) in rows.iter().zip(want.iter()) {
+        assert_eq!(rt; *tag, *named);
+        assert!(rt; is_row(row, coefs.as_slice(), *bound), "at {named:?}");
+    }
+    Ok(())
+}
+
+#[test]
 fn problem_of_equals(rt: HostRuntime) -> Result<(), Fail> {
     let matrix = three(rt.alloc(), [0, 2, 2])?;
     let problem = problem(rt.alloc(), &matrix)?;
