@@ -1,9 +1,11 @@
 -- The interval that the rows leave is the slack of an element.
 use lib.IntN.{*ℤ_comm, zero-*ℤ}
+use Rattle.std.specs.Prelude.{◌==◌}
 use Rattle.std.specs.Result.{IfOk}
-use Rattle.std.proofs.Common.{◌≡◌, ◌≢◌, ◌↔◌, ℕ, ◌-◌, ◌<◌, ◌≤◌, ◌+◌, ℤ, pos, ◌*ℤ◌, ◌≤ℤ◌, ◌-ℤ◌, List, [], ◌∷◌, ◌++◌, length, get_or, set, Some, Result, Ok, Err, OnOk, OnErr, refl, sym, ap, subst, subst₂, ◌∙◌, arith}
+use Rattle.std.proofs.Common.{◌≡◌, ◌≢◌, ◌↔◌, ℕ, ◌-◌, ◌<◌, ◌≤◌, ◌+◌, false, ℤ, pos, ◌*ℤ◌, ◌≤ℤ◌, ◌-ℤ◌, List, [], ◌∷◌, ◌++◌, length, get_or, set, Some, Result, Ok, Err, OnOk, OnErr, refl, sym, ap, subst, subst₂, ◌∙◌, arith}
 use Rattle.std.specs.List.{AllByRecursion, range_with_len}
-use Rattle.std.proofs.lemmas.List.{get_or-set_same, get_or-set_other, length-set, set-get_or}
+use Rattle.std.proofs.lemmas.List.{get_or-set_same, get_or-set_other, get_or_default, length-set, set-get_or}
+use Rattle.std.proofs.lemmas.Bool.Decides.{nat_tests}
 use Rattle.std.proofs.lemmas.List.Elements.{All-get_or}
 use Rattle.std.proofs.lemmas.Result.{IfOk-weaker}
 use Rattle.integers.specs.Fraction.{Fraction, IsFraction, AreFractions, FractionAtMost, SameFraction, IsWriting, fraction_of}
@@ -25,7 +27,7 @@ use Rattle.judgement_matrix.proofs.EveryLemmas.{every-append_right, every_from_m
 use Rattle.judgement_matrix.proofs.FitLemmas.{met_from_rows, rows_from_met}
 use Rattle.judgement_matrix.proofs.ScaleLemmas.{IsMetBy-same}
 use Rattle.value_scale.specs.Slack.{replaced, IsAllowed, IsIn, IsSlack, IsSlackOf, MeetValues, HasWideEnd, IsTooWideToWork}
-use Rattle.value_scale.specs.Narrowing.{from_next, with_rows}
+use Rattle.value_scale.specs.Narrowing.{from_next, with_rows, checked_slack}
 use Rattle.value_scale.specs.declared.slacks.Interval.{Interval}
 use Rattle.value_scale.proofs.IntervalLemmas.{Holds, AllWith, with_rows_members, Refuses, with_rows_refuses}
 
@@ -120,6 +122,14 @@ slack_is m fs x next are met low above is_next =
     for_all : (r : Result Interval TooWide) → ((w : List ℤ) (n : ℤ) → IsWriting fs w n → IfOk r (IsSlack m w n x)) → IfOk r (IsSlackOf m fs x)
     for_all (Ok i) h = h
     for_all (Err e) h = tt
+
+-- so the rows are worked that the definition says
+pub worked_is : (m : Judgements) (fs : List Fraction) (x : ℕ) (next : Fraction) → x < length fs → x < m.size → next ≡ get_or fs x next
+    → with_rows m fs x (rows m) (from_next next) ≡ checked_slack m fs x
+worked_is m fs x next inside above is_next =
+    let other : (x == m.size) ≡ false = grind (arith, nat_tests) in
+    let same = is_next ∙ get_or_default fs x next (fraction_of (pos 0)) inside in
+    rw other (ap (λ f. with_rows m fs x (rows m) (from_next f)) same)
 
 -- ---- the last element
 

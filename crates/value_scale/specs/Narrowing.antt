@@ -1,9 +1,10 @@
 -- How the interval of an element narrows, row by row.
-use Rattle.std.specs.Prelude.{ℕ, pos, ◌*ℤ◌, int_lt, Bool, List, [], ◌∷◌, Option, None, Some, if◌then◌else◌, Result, Ok}
-use Rattle.integers.specs.Fraction.{Fraction}
+use Rattle.std.specs.Prelude.{ℕ, pos, ◌*ℤ◌, ◌==◌, get_or, int_lt, Bool, List, [], ◌∷◌, Option, None, Some, if◌then◌else◌, Result, Ok}
+use Rattle.integers.specs.Fraction.{Fraction, fraction_of}
 use Rattle.frac128.specs.Checked.{◌>>=◌}
 use Rattle.frac128.specs.declared.number.TooWide.{TooWide}
 use Rattle.judgement_matrix.specs.Matrix.{Judgements}
+use Rattle.judgement_matrix.specs.Rows.{rows}
 use Rattle.judgement_matrix.specs.declared.tag.Tag.{Tag}
 use Rattle.value_scale.specs.Slack.{coefficient, checked_end}
 use Rattle.value_scale.specs.declared.slacks.Interval.{Interval}
@@ -47,3 +48,12 @@ abbrev pub with_rows : Judgements → List Fraction → ℕ → List Tag → Int
 with_rows m values x [] interval = Ok interval
 with_rows m values x (tag ∷ tags) interval =
     (with_row m values x tag interval) >>= (λ narrowed. with_rows m values x tags narrowed)
+
+-- 0 alone
+abbrev pub only_zero : Interval
+only_zero = record { low = fraction_of (pos 0); high = Some (fraction_of (pos 0)) }
+
+-- the interval of an element: the last one stays at 0, and all rows narrow that of another one, from the value of the next on
+abbrev pub checked_slack : Judgements → List Fraction → ℕ → Result Interval TooWide
+checked_slack m values x =
+    if x == m.size then Ok only_zero else with_rows m values x (rows m) (from_next (get_or values x (fraction_of (pos 0))))

@@ -6,7 +6,7 @@ ghost use Rattle.judgement_matrix.specs.Matrix.{IsPair, pairs, range_at};
 ghost use Rattle.judgement_matrix.specs.Rows.{IsTagAmong, lower_rows, zero_rows, cross_rows_under, cross_rows, order_rows, rows};
 ghost use Rattle.judgement_matrix.specs.Values.{fraction_at, checked_gap};
 ghost use Rattle.value_scale.specs.Slack.{MeetValues, IsSlackOf, IsTooWideToWork, presence, gap_coefficient, coefficient, bound, vacated, checked_side, checked_end};
-ghost use Rattle.value_scale.specs.Narrowing.{from_next, from_end, lesser, up_to_end, with_row, with_row_where, with_rows};
+ghost use Rattle.value_scale.specs.Narrowing.{checked_slack, from_next, from_end, lesser, up_to_end, with_row, with_row_where, with_rows};
 
 use frac128::laws::are_fractions;
 use frac128::{Frac, TooWide};
@@ -389,6 +389,7 @@ pub fn slack(matrix: &Matrix, values: &[Frac], element: usize) -> Result<Interva
     ensures fits { OnOk result (¬ IsTooWideToWork matrix.now values.now element) }
     ensures too_wide { OnErr result (IsTooWideToWork matrix.now values.now element) }
     ensures slack { IfOk result (IsSlackOf matrix.now values.now element) }
+    ensures worked { result ≡ checked_slack matrix.now values.now element }
 {
     // For the proofs alone: the denominators are positive.
     are_fractions(values);

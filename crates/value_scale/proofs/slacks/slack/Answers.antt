@@ -1,8 +1,8 @@
-use Rattle.std.proofs.Common.{◌≡◌, ◌<◌, ◌≤◌, pos, sym, subst, IfOk, OnOk, OnErr, rules}
+use Rattle.std.proofs.Common.{◌≡◌, ◌<◌, ◌≤◌, pos, sym, subst, ◌∙◌, IfOk, OnOk, OnErr, rules}
 use Rattle.integers.specs.Fraction.{fraction_of}
 use Rattle.value_scale.specs.Slack.{IsSlackOf, IsTooWideToWork}
 use Rattle.value_scale.specs.Narrowing.{from_next}
-use Rattle.value_scale.proofs.SlackLemmas.{slack_is, slack_last, fits_is, too_wide_is}
+use Rattle.value_scale.proofs.SlackLemmas.{slack_is, slack_last, fits_is, too_wide_is, worked_is}
 use Rattle.value_scale.proofs.MetLemmas.{values_each}
 use Rattle.value_scale.proofs.slacks.slack.Goals as goal
 
@@ -47,3 +47,12 @@ returns-clause-slack c =
     subst (λ r. IfOk r (IsSlackOf m fs c.args.element)) (sym c.with_all_rows.ensures)
     (slack_is m fs c.args.element c.index-values-element.result c.are_fractions.ensures.positive c.requires.met c.requires.element.0 above
     c.index-values-element.is)
+
+pub returns-clause-worked : goal.returns-clause-worked
+returns-clause-worked c =
+    let m = c.args.matrix.now in
+    let fs = c.args.values.now in
+    let each = values_each m fs c.are_fractions.ensures.positive c.requires.met in
+    let above : c.args.element < m.size = search rules in
+    c.with_all_rows.ensures
+    ∙ worked_is m fs c.args.element c.index-values-element.result (subst (λ n. c.args.element < n) (sym each) above) above c.index-values-element.is
