@@ -1,0 +1,3 @@
+pub mod CertLemmas
+pub mod LineLemmas
+pub mod PairLemmas

@@ -1,0 +1,17 @@
+//! Replies of a session, and their texts.
+#![tactic(auto)]
+
+mod certificates;
+mod lists;
+mod matrices;
+mod print;
+mod refusals;
+mod reply;
+mod values;
+mod words;
+
+pub use print::text;
+pub use reply::{Detail, Head, OpenTag, Part, Reply};
+
+/// Why a call that takes memory gave none of its other answers.
+pub use std::alloc::AllocError as NoMemory;
