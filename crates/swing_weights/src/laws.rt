@@ -1,8 +1,13 @@
 //! Laws of weights, as contracts of functions that do nothing.
 
-ghost use Rattle.std.specs.Prelude.{◌≡◌, List, ℤ, pos, ◌<ℤ◌};
+ghost use Rattle.std.specs.Prelude.{◌≡◌, ◌≤◌, List, ℤ, pos, ◌<ℤ◌};
 ghost use Rattle.integers.specs.Vector.{int_sum, AreNonNegative};
-ghost use Rattle.swing_weights.specs.Weights.{swings, AreShares};
+ghost use Rattle.swing_weights.specs.Weights.{swings, AreShares, AreSwingValues};
+ghost use Rattle.value_scale.specs.Basic.{IsBasic};
+
+use judgement_matrix::Matrix;
+use value_scale::Basic;
+use value_scale::laws::least_values_meet;
 
 /// States that weights sum to 1, and that none is below 0 where no swing is. It does nothing.
 pub fn weights_share_all()
@@ -10,3 +15,16 @@ pub fn weights_share_all()
     ensures none_below { (w k : List ℤ) (d : ℤ) → pos 0 <ℤ d → AreNonNegative (swings w) → AreShares w k d
         → AreNonNegative k }
 {}
+
+/// States that a basic scale has swings: two values at least, none above one before it, the last one 0. It only reads them, since
+/// what a type keeps is told where it is read.
+pub fn basic_scales_have_swings(matrix: &Matrix, basic: &Basic)
+    requires size { 2 ≤ matrix.now.size }
+    requires basic { IsBasic matrix.now basic.now }
+    ensures { AreSwingValues basic.now }
+{
+    match basic {
+        Basic::Scale { values, .. } => least_values_meet(matrix, values.as_slice()),
+        Basic::Inconsistent { .. } => {}
+    }
+}

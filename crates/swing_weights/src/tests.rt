@@ -1,14 +1,15 @@
 ghost use Rattle.std.specs.Prelude.{◌≡◌, ◌≤◌, IfOk, length};
 ghost use Rattle.judgement_matrix.specs.Values.{AreValues};
 
+use crate::laws::basic_scales_have_swings;
 use crate::{WeightFault, score, weights};
 use frac128::problem::Cert;
 use frac128::{Frac, List, TooWide};
-use judgement_matrix::{Fit, Matrix};
+use judgement_matrix::{Fit, Matrix, Range};
 use std::alloc::Global;
 use std::test::Fail;
-use value_scale::Basic;
 use value_scale::laws::met_values_never_rise;
+use value_scale::{Basic, Count, basic_scale};
 
 const MOST: i128 = i128::MAX;
 
@@ -83,5 +84,30 @@ fn no_swings(rt: HostRuntime) -> Result<(), Fail> {
         weights_by(alloc, &matrix, values).err(),
         Some(WeightFault::Flat)
     );
+    Ok(())
+}
+
+// The weights by the judgements of a matrix.
+fn weights_of(alloc: Global, matrix: &Matrix) -> Result<Vec<Frac>, WeightFault>
+    requires { 2 ≤ matrix.now.size }
+{
+    let mut pivots = Count::new();
+    let Ok(basic) = basic_scale(alloc, matrix, &mut pivots) else {
+        return Err(WeightFault::TooWide);
+    };
+    basic_scales_have_swings(matrix, &basic);
+    weights(alloc, &basic)
+}
+
+#[test]
+fn weights_of_judgements(rt: HostRuntime) -> Result<(), Fail> {
+    let mut matrix = Matrix::new(rt.alloc(), 3)?;
+    matrix.set(1, 2, Range::make(3, 3).ok_or("no range")?);
+    matrix.set(2, 3, Range::make(2, 2).ok_or("no range")?);
+    let found = weights_of(rt.alloc(), &matrix).map_err(|_| "no weights")?;
+    let [first, second] = found.as_slice() else {
+        return Err(Fail::from("not two weights"));
+    };
+    assert_eq!(rt; (parts(first), parts(second)), ((5, 7), (2, 7)));
     Ok(())
 }
