@@ -1,16 +1,22 @@
 #!/usr/bin/env python3
-"""Writes linear problems, one a line, from a fixed seed: the same lines each time.
+"""Writes linear problems or judgement matrices, one a line, from a fixed seed: the same lines each time.
 
     generate.py judgements SIZE COUNT    threshold problems of random judgement matrices of so many elements
     generate.py dense VARS ROWS LOW HIGH COUNT    costs 1 to 9, bounds 1 to 50, coefficients LOW to HIGH
+    generate.py judged SIZE COUNT    consistent matrices, each pair judged by one category
+    generate.py ranges SIZE COUNT    the same with ranges of categories for some three pairs of ten
+    generate.py gaps SIZE COUNT    the same with a third of the pairs unjudged
 
-A line is a name, the number of variables, the costs, and then each row's coefficients with its bound last: the row asks that
-the coefficients times the variables come to at least the bound.
+A line of a problem is a name, the number of variables, the costs, and then each row's coefficients with its bound last: the
+row asks that the coefficients times the variables come to at least the bound. A line of a matrix is a name, the word
+`matrix`, the number of elements, and for each judged pair its two elements, counted from 1, and its lowest and highest
+category.
 
 A judgement matrix gives each pair of elements, the better first, a range of categories 0 to 6. Here the elements lie on a
 hidden scale, which makes most matrices consistent, and a few pairs are judged one category off. The threshold problem has the
 gaps between neighbours as variables, from the bottom, each of cost 1, and then the five thresholds between categories.
 """
+import bisect
 import random
 import sys
 
@@ -73,6 +79,22 @@ def threshold_problem(size, ranges):
     return [1] * gaps + [0] * 5, rows
 
 
+def consistent(kind, size, rng):
+    """A range for each judged pair (p, q) with p < q: which of six classes the difference on a hidden scale falls in."""
+    values = sorted((rng.random() for _ in range(size)), reverse=True)
+    limits = sorted(rng.random() * (values[0] - values[-1]) for _ in range(CATEGORIES - 1))
+    ranges = {}
+    for p in range(size):
+        for q in range(p + 1, size):
+            low = high = 1 + bisect.bisect(limits, values[p] - values[q])
+            if kind == "ranges" and rng.random() < 0.3:
+                low = max(1, low - rng.randint(0, 1))
+                high = min(CATEGORIES, high + 1)
+            if kind != "gaps" or rng.random() < 2 / 3:
+                ranges[p, q] = (low, high)
+    return ranges
+
+
 def dense_problem(variables, count, low, high, rng):
     cost = [rng.randint(1, 9) for _ in range(variables)]
     rows = []
@@ -90,16 +112,23 @@ def line(name, cost, rows):
     return " ".join([name, *map(str, numbers)])
 
 
+def matrix_line(name, size, ranges):
+    numbers = [number for (p, q), (low, high) in ranges.items() for number in (p + 1, q + 1, low, high)]
+    return " ".join([name, "matrix", str(size), *map(str, numbers)])
+
+
 def main():
     kind, *sizes = sys.argv[1:]
     sizes = [int(word) for word in sizes]
     for k in range(sizes[-1]):
         rng = random.Random(f"{kind} {sizes[:-1]} {k}")
+        name = "-".join([kind, *map(str, sizes[:-1]), str(k + 1)])
         if kind == "judgements":
-            problem = threshold_problem(sizes[0], judgements(sizes[0], rng))
+            print(line(name, *threshold_problem(sizes[0], judgements(sizes[0], rng))))
+        elif kind == "dense":
+            print(line(name, *dense_problem(*sizes[:4], rng)))
         else:
-            problem = dense_problem(*sizes[:4], rng)
-        print(line("-".join([kind, *map(str, sizes[:-1]), str(k + 1)]), *problem))
+            print(matrix_line(name, sizes[0], consistent(kind, sizes[0], rng)))
 
 
 main()

@@ -1,0 +1,130 @@
+//! What a line asks for.
+
+use frac128::List;
+use frac128::problem::{Problem, Row};
+use judgement_matrix::{LIMIT, Matrix, Range};
+use lex_simplex::{Count, Outcome, SolveFault, solve};
+use std::alloc::{AllocError, Global};
+use value_scale::{Basic, ScaleFault, basic_scale};
+
+/// A linear problem, or a matrix with so many judged pairs.
+#[derive(Drop)]
+pub(crate) enum Task {
+    Solve(Problem),
+    Scale(Matrix, usize),
+}
+
+impl Task {
+    /// The task of a line, if it is one.
+    pub(crate) fn read(alloc: Global, line: &str) -> Result<Option<Task>, AllocError> {
+        let is_matrix = line.split_whitespace().nth(1) == Some("matrix");
+        let mut numbers = Vec::new(alloc);
+        for word in line.split_whitespace().skip(if is_matrix { 2 } else { 1 }) {
+            let Ok(number) = word.parse::<i128>() else {
+                return Ok(None);
+            };
+            numbers.push(number)?;
+        }
+        let Some((first, rest)) = numbers.as_slice().split_first() else {
+            return Ok(None);
+        };
+        let Ok(size) = usize::try_from(*first) else {
+            return Ok(None);
+        };
+        if is_matrix {
+            return matrix_of(alloc, size, rest);
+        }
+        problem_of(alloc, size, rest)
+    }
+
+    /// The name of the answer, and the pivots.
+    pub(crate) fn run(&self, alloc: Global) -> (&'static str, u64) {
+        let mut pivots = Count::new();
+        let end = match self {
+            Task::Solve(problem) => end_of(&solve(alloc, problem, &mut pivots)),
+            Task::Scale(matrix, _) => scaled(alloc, matrix, &mut pivots),
+        };
+        (end, pivots.made())
+    }
+
+    /// How many variables and rows, or elements and judged pairs.
+    pub(crate) fn sizes(&self) -> (usize, usize) {
+        match self {
+            Task::Solve(problem) => (problem.vars(), problem.rows().len()),
+            Task::Scale(matrix, judged) => (matrix.size(), *judged),
+        }
+    }
+}
+
+/// The problem with so many variables: first the costs, then each row, its bound last.
+fn problem_of(alloc: Global, vars: usize, numbers: &[i128]) -> Result<Option<Task>, AllocError> {
+    let (Some((cost, rest)), Some(width)) = (numbers.split_at_checked(vars), vars.checked_add(1))
+    else {
+        return Ok(None);
+    };
+    let mut rows = Vec::new(alloc);
+    for row in rest.chunks_exact(width) {
+        if let Some((bound, coefs)) = row.split_last() {
+            rows.push(Row {
+                coefs: List::make(coefs.to_vec(alloc)?),
+                bound: *bound,
+            })?;
+        }
+    }
+    let cost = List::make(cost.to_vec(alloc)?);
+    Ok(Problem::checked(vars, cost, List::make(rows)).map(Task::Solve))
+}
+
+/// The matrix of so many elements: for each judged pair its elements and its lowest and highest category.
+fn matrix_of(alloc: Global, size: usize, numbers: &[i128]) -> Result<Option<Task>, AllocError> {
+    if size < 2 || size > LIMIT {
+        return Ok(None);
+    }
+    let mut matrix = Matrix::new(alloc, size)?;
+    let mut judged: usize = 0;
+    for judgement in numbers.chunks_exact(4) {
+        let (Ok(p), Ok(q)) = (usize::try_from(judgement[0]), usize::try_from(judgement[1])) else {
+            return Ok(None);
+        };
+        let Some(range) = range_of(judgement[2], judgement[3]) else {
+            return Ok(None);
+        };
+        if p < 1 || p >= q || q > matrix.size() {
+            return Ok(None);
+        }
+        matrix.set(p, q, range);
+        judged = judged.saturating_add(1);
+    }
+    Ok(Some(Task::Scale(matrix, judged)))
+}
+
+/// The categories from the lowest to the highest.
+fn range_of(low: i128, high: i128) -> Option<Range> {
+    let (Ok(lo), Ok(hi)) = (u8::try_from(low), u8::try_from(high)) else {
+        return None;
+    };
+    Range::make(lo, hi)
+}
+
+/// The name of an answer.
+fn end_of(answer: &Result<Outcome, SolveFault>) -> &'static str {
+    match answer {
+        Ok(Outcome::Least { .. }) => "least",
+        Ok(Outcome::Nothing { .. }) => "nothing",
+        Err(SolveFault::TooWide) => "wide",
+        Err(SolveFault::NoMemory) => "memory",
+    }
+}
+
+/// The name of the answer for a matrix.
+fn scaled(alloc: Global, matrix: &Matrix, pivots: &mut Count) -> &'static str {
+    if matrix.size() < 2 {
+        return "small";
+    }
+    match basic_scale(alloc, matrix, pivots) {
+        Ok(Basic::Scale { .. }) => "least",
+        Ok(Basic::Inconsistent { .. }) => "nothing",
+        Err(ScaleFault::TooWide) => "wide",
+        Err(ScaleFault::NoMemory) => "memory",
+    }
+}
