@@ -80,4 +80,3 @@ mul_nonneg a b p q = grind (arith, ints)
 -- two positive numbers have a positive product
 pub mul_pos : (a b : ℤ) → pos 0 <ℤ a → pos 0 <ℤ b → pos 0 <ℤ (a *ℤ b)
 mul_pos a b p q = grind (arith, common_steps)
-

@@ -13,8 +13,7 @@ use Rattle.lex_simplex.specs.declared.outcome.Outcome.TheVariants.{Least, Nothin
 
 pub fraction_Decides : (f g : Fraction) → Decides (is_same_fraction f g) (f ≡ g)
 fraction_Decides f g =
-    let h = both_Decides (int_eq f.num g.num) (int_eq f.den g.den) (f.num ≡ g.num) (f.den ≡ g.den) (signed_Decides f.num g.num) (signed_Decides f.den g.den) in
-    (
+    let h = both_Decides (int_eq f.num g.num) (int_eq f.den g.den) (f.num ≡ g.num) (f.den ≡ g.den) (signed_Decides f.num g.num) (signed_Decides f.den g.den) in (
       λ e. let p = h.0 e in λ i. record { num = p.0 i; den = p.1 i },
       λ e. h.1 (ap (λ (x : Fraction). x.num) e, ap (λ (x : Fraction). x.den) e),
     )
