@@ -8,7 +8,8 @@ use Rattle.frac128.proofs.Combination.{get_or-combination}
 use Rattle.cert_check.specs.Entries.{products_on, coefficient, bound}
 
 -- a column of the rows against the multipliers
-column_is : (rows : List Row) (on : List (ℕ × ℤ)) (j : ℕ) → int_sum (products_on (coefficient j) rows on) ≡ dot (multipliers on) (column_of j (coefs_on rows on))
+column_is : (rows : List Row) (on : List (ℕ × ℤ)) (j : ℕ)
+    → int_sum (products_on (coefficient j) rows on) ≡ dot (multipliers on) (column_of j (coefs_on rows on))
 column_is rows [] j = refl
 column_is rows (e ∷ on) j = ap (λ z. e.1 *ℤ get_or (row_at rows e.0).coefs j (pos 0) +ℤ z) (column_is rows on j)
 

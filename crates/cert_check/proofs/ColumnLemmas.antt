@@ -17,7 +17,8 @@ below-next P j before here i below = step (cases_order i j)
     step (inr (inr more)) = absurd (omega arith)
 
 -- one more column
-pub PassBefore-next : (p : ProblemData) (d : ℤ) (on : List (ℕ × ℤ)) (j : ℕ) → PassBefore p d on j → ColumnFits p d on j → IsColumnBelow p d on j → PassBefore p d on (j + 1)
+pub PassBefore-next : (p : ProblemData) (d : ℤ) (on : List (ℕ × ℤ)) (j : ℕ) → PassBefore p d on j → ColumnFits p d on j → IsColumnBelow p d on j
+    → PassBefore p d on (j + 1)
 PassBefore-next p d on j before fits below = record {
   below = below-next (IsColumnBelow p d on) j before.below below;
   fit = below-next (ColumnFits p d on) j before.fit fits;
@@ -25,7 +26,8 @@ PassBefore-next p d on j before fits below = record {
 
 -- a column's coefficient compared with d times its cost
 pub IsColumnBelow-compared : (p : ProblemData) (d : ℤ) (on : List (ℕ × ℤ)) (j : ℕ) (sum most cost : ℤ) (answer : Bool)
-    → sum ≡ int_sum (products_on (coefficient j) p.rows on) → most ≡ d *ℤ cost → cost ≡ get_or p.cost j (pos 0) → IsTrue answer ↔ sum ≤ℤ most → IsTrue answer ↔ IsColumnBelow p d on j
+    → sum ≡ int_sum (products_on (coefficient j) p.rows on) → most ≡ d *ℤ cost → cost ≡ get_or p.cost j (pos 0) → IsTrue answer ↔ sum ≤ℤ most
+    → IsTrue answer ↔ IsColumnBelow p d on j
 IsColumnBelow-compared p d on j sum most cost answer sum_is most_is cost_is compared =
     let with_sum = subst (λ z. IsTrue answer ↔ z ≤ℤ most) sum_is compared in
     let with_most = subst (λ z. IsTrue answer ↔ int_sum (products_on (coefficient j) p.rows on) ≤ℤ z) most_is with_sum in

@@ -5,10 +5,6 @@ use Rattle.std.proofs.Math.ListN.{get_or-map}
 use Rattle.frac128.specs.Problem.{AreRowMultipliers}
 use Rattle.cert_check.specs.Entries.{IsEntry, entry_at}
 
--- the positions of entries
-positions : List (ℕ × ℤ) → List ℕ
-positions on = map (λ (e : ℕ × ℤ). e.0) on
-
 -- the position of the entry at a place
 position_is : (on : List (ℕ × ℤ)) (k : ℕ) → get_or (map (λ (e : ℕ × ℤ). e.0) on) k 0 ≡ (entry_at on k).0
 position_is on k = get_or-map (λ (e : ℕ × ℤ). e.0) on k (0, pos 0)
@@ -31,7 +27,8 @@ IsEntry-at count on all k below = record {
   after_last = λ i next.
       let inside : i + 1 < length (map (λ (e : ℕ × ℤ). e.0) on) = omega (arith, length-map on (λ (e : ℕ × ℤ). e.0)) in
       let rises = all.positions_rise i inside in
-      let here : get_or (map (λ (e : ℕ × ℤ). e.0) on) (i + 1) 0 ≡ (entry_at on k).0 = subst (λ n. get_or (map (λ (e : ℕ × ℤ). e.0) on) n 0 ≡ (entry_at on k).0) (sym next) (position_is on k) in
+      let here : get_or (map (λ (e : ℕ × ℤ). e.0) on) (i + 1) 0 ≡ (entry_at on k).0 =
+      subst (λ n. get_or (map (λ (e : ℕ × ℤ). e.0) on) n 0 ≡ (entry_at on k).0) (sym next) (position_is on k) in
       omega (arith, position_is on i);
   nonneg = all.nonneg k (0, pos 0) below;
 }

@@ -1,5 +1,5 @@
 -- Entries of a text, by the kind that their first word tells.
-use Rattle.std.proofs.Common.{◌≡◌, ◌≢◌, ℕ, ◌<◌, length, List, [], ◌∷◌, ◌++◌, ℤ, refl, sym, ap, ◌∙◌, arith, append_assoc, append-nil, get_or}
+use Rattle.std.proofs.Common.{◌≡◌, ◌≢◌, ℕ, ◌<◌, length, List, [], ◌∷◌, ◌++◌, ℤ, sym, ap, ◌∙◌, arith, append_assoc, append-nil, get_or}
 use Rattle.std.specs.Prelude.{All}
 use Rattle.std.specs.Fmt.{signed_decimal}
 use Rattle.std.proofs.lemmas.Grind.{flat_map-append}
@@ -10,7 +10,7 @@ use Rattle.judgement_matrix.specs.declared.tag.Tag.TheVariants.{Lower, Zero, Cro
 use Rattle.cert_check.specs.Reading.{words, IsPairText, IsCrossText, IsPrintedEntry, HasEntries}
 use Rattle.cert_check.specs.Text.{IsEntryText, tag_words, entry_words, entries_text, line_of, BeginWithNo}
 use Rattle.cert_check.specs.declared.text.TheConstants.{LOWER, ZERO, CROSS}
-use Rattle.cert_check.proofs.LineLemmas.{no_line, other_line, this_line}
+use Rattle.cert_check.proofs.LineLemmas.{other_line, this_line}
 use Rattle.cert_check.proofs.PrintedWords.{entry_is_words}
 
 -- the kinds differ by their first bytes
@@ -18,7 +18,8 @@ pub first_differs : (a b : List ℕ) → get_or a 0 0 ≢ get_or b 0 0 → a ≢
 first_differs a b other e = other (ap (λ l. get_or l 0 0) e)
 
 -- where the words behind `lower` are no pair's, there is no entry
-pub no_lower : (line kind rest : List ℕ) → words line ≡ kind ∷ words rest → kind ≡ LOWER.now → ((e : (ℕ × ℕ) × ℤ) → ¬ IsPairText rest e) → (x : Tag × ℤ) → ¬ IsPrintedEntry (words line) x
+pub no_lower : (line kind rest : List ℕ) → words line ≡ kind ∷ words rest → kind ≡ LOWER.now → ((e : (ℕ × ℕ) × ℤ) → ¬ IsPairText rest e) → (x : Tag × ℤ)
+    → ¬ IsPrintedEntry (words line) x
 no_lower line kind rest cut is none x = step x.0 x.1
   where
     step : (tag : Tag) (y : ℤ) → ¬ IsPrintedEntry (words line) (tag, y)
@@ -28,7 +29,8 @@ no_lower line kind rest cut is none x = step x.0 x.1
     step (Order p) y h = h.0.0
 
 -- where the words behind `zero` are no pair's, there is no entry
-pub no_zero : (line kind rest : List ℕ) → words line ≡ kind ∷ words rest → kind ≡ ZERO.now → ((e : (ℕ × ℕ) × ℤ) → ¬ IsPairText rest e) → (x : Tag × ℤ) → ¬ IsPrintedEntry (words line) x
+pub no_zero : (line kind rest : List ℕ) → words line ≡ kind ∷ words rest → kind ≡ ZERO.now → ((e : (ℕ × ℕ) × ℤ) → ¬ IsPairText rest e) → (x : Tag × ℤ)
+    → ¬ IsPrintedEntry (words line) x
 no_zero line kind rest cut is none x = step x.0 x.1
   where
     step : (tag : Tag) (y : ℤ) → ¬ IsPrintedEntry (words line) (tag, y)
@@ -38,7 +40,8 @@ no_zero line kind rest cut is none x = step x.0 x.1
     step (Order p) y h = h.0.0
 
 -- where the words behind `cross` are not those of two pairs, there is no entry
-pub no_cross : (line kind rest : List ℕ) → words line ≡ kind ∷ words rest → kind ≡ CROSS.now → ((e : ((ℕ × ℕ) × (ℕ × ℕ)) × ℤ) → ¬ IsCrossText rest e) → (x : Tag × ℤ) → ¬ IsPrintedEntry (words line) x
+pub no_cross : (line kind rest : List ℕ) → words line ≡ kind ∷ words rest → kind ≡ CROSS.now → ((e : ((ℕ × ℕ) × (ℕ × ℕ)) × ℤ) → ¬ IsCrossText rest e)
+    → (x : Tag × ℤ) → ¬ IsPrintedEntry (words line) x
 no_cross line kind rest cut is none x = step x.0 x.1
   where
     step : (tag : Tag) (y : ℤ) → ¬ IsPrintedEntry (words line) (tag, y)
@@ -53,10 +56,6 @@ entry_filled entry none = omega (arith, ap length none, length-append (tag_words
 
 -- ---- entry by entry
 
--- at the start
-pub HasEntries-none : (text : List ℕ) (count : ℕ) → HasEntries text count [] text
-HasEntries-none text count = record { are_entries = All-nil IsEntryText; no_more = omega arith; parts = refl }
-
 -- one more
 pub HasEntries-next : (text : List ℕ) (count : ℕ) (on : List (Tag × ℤ)) (rest line after : List ℕ) (entry : Tag × ℤ) → HasEntries text count on rest
     → length on < count → rest ≡ line ++ 10 ∷ after → IsPrintedEntry (words line) entry → HasEntries text count (on ++ entry ∷ []) after
@@ -69,11 +68,8 @@ HasEntries-next text count on rest line after entry h room parts printed = recor
       ∙ ap (λ l. l ++ after) (sym (flat_map-append (λ (e : Tag × ℤ). line_of (entry_words e)) on (entry ∷ [])));
 }
 
--- no line is left
-pub no_entry_line : (rest : List ℕ) → All (λ b. b ≢ 10) rest → BeginWithNo IsEntryText entry_words rest
-no_entry_line rest free = no_line IsEntryText entry_words rest free
-
 -- the line is no entry
-pub other_entry_line : (rest line after : List ℕ) → rest ≡ line ++ 10 ∷ after → All (λ b. b ≢ 10) line → ((x : Tag × ℤ) → ¬ IsPrintedEntry (words line) x) → BeginWithNo IsEntryText entry_words rest
+pub other_entry_line : (rest line after : List ℕ) → rest ≡ line ++ 10 ∷ after → All (λ b. b ≢ 10) line → ((x : Tag × ℤ) → ¬ IsPrintedEntry (words line) x)
+    → BeginWithNo IsEntryText entry_words rest
 other_entry_line rest line after parts free none =
     other_line IsEntryText entry_words rest line after entry_is_words (λ x is. entry_filled x) parts free (λ x is same. none x (is, same))

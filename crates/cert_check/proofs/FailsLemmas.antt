@@ -61,7 +61,8 @@ later rows x n e on u = record { place = suc u.place; inside = (let h = u.inside
 -- all entries
 scan : (rows : List Row) (x : List ℤ) (n : ℤ) (on : List (ℕ × ℤ)) → All (λ (e : ℕ × ℤ). pos 0 ≤ℤ e.1) on → Unmet rows x n on ⊎ AreMet rows x n on
 scan rows x n [] nonneg = inr (subst (λ z. z ≤ℤ pos 0) (sym (zero-*ℤ n)) (omega (arith, lin)))
-scan rows x n (e ∷ on) nonneg = step (lt_cases (pos 0) e.1) (lt_cases ((row_at rows e.0).bound *ℤ n) (dot (row_at rows e.0).coefs x)) (scan rows x n on (All-tail (λ (e : ℕ × ℤ). pos 0 ≤ℤ e.1) e on nonneg))
+scan rows x n (e ∷ on) nonneg = step (lt_cases (pos 0) e.1) (lt_cases ((row_at rows e.0).bound *ℤ n) (dot (row_at rows e.0).coefs x))
+    (scan rows x n on (All-tail (λ (e : ℕ × ℤ). pos 0 ≤ℤ e.1) e on nonneg))
   where
     bound : ℤ
     bound = (row_at rows e.0).bound *ℤ n
@@ -100,7 +101,8 @@ gaps_nonneg m w n two scale falls k d below =
     (subst (λ z. pos 0 ≤ℤ z) is (subst (λ v. pos 0 ≤ℤ difference v p (p + 1)) (sym (scale_is m w n (omega arith) scale)) fall))
 
 -- a Farkas certificate names a row that the scale fails
-pub fails_named_row : (m : Judgements) (cert : Cert) → 2 ≤ m.size → IsFarkasCertificate (problem_of m) cert → (w : List ℤ) (n : ℤ) → IsScale m w n → NeverRises m w → FailsNamedRow m cert w n
+pub fails_named_row : (m : Judgements) (cert : Cert) → 2 ≤ m.size → IsFarkasCertificate (problem_of m) cert → (w : List ℤ) (n : ℤ) → IsScale m w n
+    → NeverRises m w → FailsNamedRow m cert w n
 fails_named_row m cert two h w n scale falls = step (scan (map (row_of m) (judged_rows m)) x n cert.on h.entries.nonneg)
   where
     x : List ℤ
@@ -131,7 +133,8 @@ fails_named_row m cert two h w n scale falls = step (scan (map (row_of m) (judge
     step (inr met) =
         let ys : List ℤ = multipliers cert.on in
         let sum : List ℤ = weighted_sum ys (coefs_on rows cert.on) in
-        let below = AreAtMost-trans sum (add (replicate (m.size - 1) (pos 0)) sum) [] (AreAtMost-add_zeros (m.size - 1) sum) (AreAtMost-nil (add (replicate (m.size - 1) (pos 0)) sum) h.none_above) in
+        let below = AreAtMost-trans sum (add (replicate (m.size - 1) (pos 0)) sum) [] (AreAtMost-add_zeros (m.size - 1) sum)
+        (AreAtMost-nil (add (replicate (m.size - 1) (pos 0)) sum) h.none_above) in
         let at_most : dot sum x ≤ℤ pos 0 = dot_le sum [] x below (gaps_nonneg m w n two scale falls) in
         let is = dot-weighted_sum ys (coefs_on rows cert.on) x in
         let positive = mul_pos (dot ys (bounds_on rows cert.on)) n h.bound_above scale.den_pos in
@@ -150,7 +153,8 @@ span_is m w n two scale =
     ∙ ap (λ v. value_at v 1) (scale_is m w n (omega arith) scale)
 
 -- a span certificate bounds the first value of each scale that meets the matrix
-pub span_bounds_scales : (m : Judgements) (cert : Cert) (value : Fraction) (w : List ℤ) (n : ℤ) → 2 ≤ m.size → IsSpanCertificate (problem_of m) cert value → IsMetBy m w n
+pub span_bounds_scales : (m : Judgements) (cert : Cert) (value : Fraction) (w : List ℤ) (n : ℤ) → 2 ≤ m.size → IsSpanCertificate (problem_of m) cert value
+    → IsMetBy m w n
     → FractionAtMost value (record { num = value_at w 1; den = n })
 span_bounds_scales m cert value w n two h met =
     subst (λ z. FractionAtMost value (record { num = z; den = n })) (span_is m w n two met.scale)

@@ -10,30 +10,32 @@ use Rattle.frac128.specs.Range.{IsInRange}
 use Rattle.frac128.specs.declared.problem.Cert.{Cert}
 use Rattle.frac128.proofs.Combination.{length-combination}
 use Rattle.cert_check.specs.Entries.{IsEntry, products_on, added_in_turn, coefficient, bound}
-use Rattle.cert_check.specs.First.{IsFirstFailing}
 use Rattle.cert_check.specs.Columns.{IsColumnBelow, PassBefore, IsFailingColumn, IsWideColumn}
 use Rattle.cert_check.specs.Lines.{Passes, IsReached, IsFirstFalse, IsFirstTooWide, IsPassed, AllSay, farkas_check, IsCommonLine}
 use Rattle.cert_check.specs.declared.verdict.Place.TheVariants.{Den, Entry, Column, Bound}
 use Rattle.cert_check.proofs.CertificateLemmas.{coefficient_is, bound_is}
 use Rattle.cert_check.proofs.EntryLemmas.{IsEntry-at, AreRowMultipliers-from_entries}
-use Rattle.cert_check.proofs.ReachedLemmas.{reached-entry, reached-column, reached-bound, passed-all}
+use Rattle.cert_check.proofs.ReachedLemmas.{reached-column, reached-bound, passed-all}
 
 -- nothing is formed for an entry
 entry_passes : (p : ProblemData) (cert : Cert) (k : ℕ) → IsEntry (length p.rows) cert.on (k - 1) → Passes (farkas_check p cert) (Entry k)
 entry_passes p cert k says = (says, All-nil IsInRange)
 
 -- entries that are as they should be
-entries_pass : (p : ProblemData) (cert : Cert) → AreRowMultipliers (length p.rows) cert.on → (k : ℕ) → IsCommonLine p cert (Entry k) → Passes (farkas_check p cert) (Entry k)
+entries_pass : (p : ProblemData) (cert : Cert) → AreRowMultipliers (length p.rows) cert.on → (k : ℕ) → IsCommonLine p cert (Entry k)
+    → Passes (farkas_check p cert) (Entry k)
 entries_pass p cert all k line = entry_passes p cert k (IsEntry-at (length p.rows) cert.on all (k - 1) (omega arith))
 
 -- a coefficient against 0 times a cost
 says_column : (p : ProblemData) (cert : Cert) (j : ℕ) → IsColumnBelow p (pos 0) cert.on j → get_or (combination p cert.on).coefs j (pos 0) ≤ℤ pos 0
 says_column p cert j below =
-    subst (λ z. z ≤ℤ pos 0) (coefficient_is p cert.on j) (subst (λ z. int_sum (products_on (coefficient j) p.rows cert.on) ≤ℤ z) (zero-*ℤ (get_or p.cost j (pos 0))) below)
+    subst (λ z. z ≤ℤ pos 0) (coefficient_is p cert.on j)
+    (subst (λ z. int_sum (products_on (coefficient j) p.rows cert.on) ≤ℤ z) (zero-*ℤ (get_or p.cost j (pos 0))) below)
 
 below_column : (p : ProblemData) (cert : Cert) (j : ℕ) → get_or (combination p cert.on).coefs j (pos 0) ≤ℤ pos 0 → IsColumnBelow p (pos 0) cert.on j
 below_column p cert j says =
-    subst (λ z. int_sum (products_on (coefficient j) p.rows cert.on) ≤ℤ z) (sym (zero-*ℤ (get_or p.cost j (pos 0)))) (subst (λ z. z ≤ℤ pos 0) (sym (coefficient_is p cert.on j)) says)
+    subst (λ z. int_sum (products_on (coefficient j) p.rows cert.on) ≤ℤ z) (sym (zero-*ℤ (get_or p.cost j (pos 0))))
+    (subst (λ z. z ≤ℤ pos 0) (sym (coefficient_is p cert.on j)) says)
 
 -- 0 times a cost is in range
 most_fits : (cost : ℤ) → IsInRange (pos 0 *ℤ cost)
@@ -55,23 +57,16 @@ no_den p cert line = absurd line
 
 -- ---- what each end of the check amounts to
 
--- an entry that is false
-pub farkas-entry : (p : ProblemData) (cert : Cert) (i : ℕ) → IsFirstFailing (IsEntry (length p.rows) cert.on) (length cert.on) i → IsFirstFalse (farkas_check p cert) (Entry (i + 1))
-farkas-entry p cert i first = record {
-  reached = reached-entry (farkas_check p cert) (i + 1) (omega arith, (let h = first.below in omega arith)) (no_den p cert)
-      (λ k line less. entry_passes p cert k (first.hold (k - 1) (omega arith)));
-  fits = All-nil IsInRange;
-  false = λ says. first.fails (subst (IsEntry (length p.rows) cert.on) (back i) says);
-}
-
 -- the check comes to a column
-reached : (p : ProblemData) (cert : Cert) (j : ℕ) → AreRowMultipliers (length p.rows) cert.on → j < p.vars → PassBefore p (pos 0) cert.on j → IsReached (farkas_check p cert) (Column (j + 1))
+reached : (p : ProblemData) (cert : Cert) (j : ℕ) → AreRowMultipliers (length p.rows) cert.on → j < p.vars → PassBefore p (pos 0) cert.on j
+    → IsReached (farkas_check p cert) (Column (j + 1))
 reached p cert j entries inside before =
     reached-column (farkas_check p cert) (j + 1) (omega arith, omega arith) (no_den p cert) (entries_pass p cert entries)
     (λ k line less. columns_pass p cert j k before line.0 (omega arith))
 
 -- a column that is false
-pub farkas-column : (p : ProblemData) (cert : Cert) (j : ℕ) → AreRowMultipliers (length p.rows) cert.on → IsFailingColumn p (pos 0) cert.on j → IsFirstFalse (farkas_check p cert) (Column (j + 1))
+pub farkas-column : (p : ProblemData) (cert : Cert) (j : ℕ) → AreRowMultipliers (length p.rows) cert.on → IsFailingColumn p (pos 0) cert.on j
+    → IsFirstFalse (farkas_check p cert) (Column (j + 1))
 farkas-column p cert j entries failing = record {
   reached = reached p cert j entries failing.column failing.before;
   fits = subst (λ n. All IsInRange (added_in_turn (pos 0) (products_on (coefficient n) p.rows cert.on))) (sym (back j)) failing.fits.sums;
@@ -79,7 +74,8 @@ farkas-column p cert j entries failing = record {
 }
 
 -- a column that is too wide
-pub farkas-wide_column : (p : ProblemData) (cert : Cert) (j : ℕ) → AreRowMultipliers (length p.rows) cert.on → IsWideColumn p (pos 0) cert.on j → IsFirstTooWide (farkas_check p cert) (Column (j + 1))
+pub farkas-wide_column : (p : ProblemData) (cert : Cert) (j : ℕ) → AreRowMultipliers (length p.rows) cert.on → IsWideColumn p (pos 0) cert.on j
+    → IsFirstTooWide (farkas_check p cert) (Column (j + 1))
 farkas-wide_column p cert j entries wide = record {
   reached = reached p cert j entries wide.column wide.before;
   too_wide = λ fits. wide.wide (record {
@@ -89,7 +85,8 @@ farkas-wide_column p cert j entries wide = record {
 }
 
 -- the check comes to the bound
-pub farkas-reached_bound : (p : ProblemData) (cert : Cert) → AreRowMultipliers (length p.rows) cert.on → PassBefore p (pos 0) cert.on p.vars → IsReached (farkas_check p cert) Bound
+pub farkas-reached_bound : (p : ProblemData) (cert : Cert) → AreRowMultipliers (length p.rows) cert.on → PassBefore p (pos 0) cert.on p.vars
+    → IsReached (farkas_check p cert) Bound
 farkas-reached_bound p cert entries before =
     reached-bound (farkas_check p cert) tt (no_den p cert) (entries_pass p cert entries) (λ k line. columns_pass p cert p.vars k before line.0 line.1)
 
@@ -100,7 +97,8 @@ farkas-wide_bound p cert entries before wide = record { reached = farkas-reached
 
 -- the bound is false
 pub farkas-bound : (p : ProblemData) (cert : Cert) (sum : ℤ) → AreRowMultipliers (length p.rows) cert.on → PassBefore p (pos 0) cert.on p.vars
-    → All IsInRange (added_in_turn (pos 0) (products_on bound p.rows cert.on)) → sum ≡ int_sum (products_on bound p.rows cert.on) → ¬ (pos 0 <ℤ sum) → IsFirstFalse (farkas_check p cert) Bound
+    → All IsInRange (added_in_turn (pos 0) (products_on bound p.rows cert.on)) → sum ≡ int_sum (products_on bound p.rows cert.on) → ¬ (pos 0 <ℤ sum)
+    → IsFirstFalse (farkas_check p cert) Bound
 farkas-bound p cert sum entries before fits is false = record {
   reached = farkas-reached_bound p cert entries before;
   fits = fits;
@@ -109,16 +107,19 @@ farkas-bound p cert sum entries before fits is false = record {
 
 -- all lines pass
 pub farkas-passed : (p : ProblemData) (cert : Cert) (sum : ℤ) → AreRowMultipliers (length p.rows) cert.on → PassBefore p (pos 0) cert.on p.vars
-    → All IsInRange (added_in_turn (pos 0) (products_on bound p.rows cert.on)) → sum ≡ int_sum (products_on bound p.rows cert.on) → pos 0 <ℤ sum → IsPassed (farkas_check p cert)
+    → All IsInRange (added_in_turn (pos 0) (products_on bound p.rows cert.on)) → sum ≡ int_sum (products_on bound p.rows cert.on) → pos 0 <ℤ sum
+    → IsPassed (farkas_check p cert)
 farkas-passed p cert sum entries before fits is positive =
     passed-all (farkas_check p cert) (farkas-reached_bound p cert entries before) (subst (λ z. pos 0 <ℤ z) (is ∙ bound_is p cert.on) positive, fits)
 
 -- ---- the certificate
 
 -- the entries that the lines speak of
-pub entries_from_lines : (p : ProblemData) (cert : Cert) → ((k : ℕ) → IsCommonLine p cert (Entry k) → IsEntry (length p.rows) cert.on (k - 1)) → AreRowMultipliers (length p.rows) cert.on
+pub entries_from_lines : (p : ProblemData) (cert : Cert) → ((k : ℕ) → IsCommonLine p cert (Entry k) → IsEntry (length p.rows) cert.on (k - 1))
+    → AreRowMultipliers (length p.rows) cert.on
 entries_from_lines p cert lines =
-    AreRowMultipliers-from_entries (length p.rows) cert.on (λ k below. subst (IsEntry (length p.rows) cert.on) (back k) (lines (k + 1) (omega arith, omega arith)))
+    AreRowMultipliers-from_entries (length p.rows) cert.on
+    (λ k below. subst (IsEntry (length p.rows) cert.on) (back k) (lines (k + 1) (omega arith, omega arith)))
 
 -- the lines together say that it is one
 pub farkas-lines : (p : ProblemData) (cert : Cert) → IsProblem p → AllSay (farkas_check p cert) ↔ IsFarkasCertificate p cert
@@ -140,5 +141,6 @@ farkas-lines p cert ok = (certificate, lines)
     lines : IsFarkasCertificate p cert → AllSay (farkas_check p cert)
     lines h Den line = tt
     lines h (Entry k) line = IsEntry-at (length p.rows) cert.on h.entries (k - 1) (omega arith)
-    lines h (Column k) line = h.none_above (k - 1) (pos 0) (subst (λ n. k - 1 < n) (sym (length-combination p ok cert.on h.entries.positions_below)) (omega arith))
+    lines h (Column k) line = h.none_above (k - 1) (pos 0)
+        (subst (λ n. k - 1 < n) (sym (length-combination p ok cert.on h.entries.positions_below)) (omega arith))
     lines h Bound line = h.bound_above

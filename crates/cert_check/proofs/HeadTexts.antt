@@ -11,19 +11,16 @@ use Rattle.cert_check.specs.declared.text.Head.{Head}
 use Rattle.cert_check.specs.declared.text.TheConstants.{ROWS}
 use Rattle.cert_check.specs.Reading.{words, IsPrintedHead, HasEntries, AreEntries, IsEntriesFault}
 use Rattle.cert_check.specs.Text.{IsHead, claim_words, head_words, head_of, line_of, entries_text, HasRead, IsFirstBad, IsFault, IsTextOf}
-use Rattle.cert_check.proofs.LineLemmas.{no_line, other_line, this_line}
+use Rattle.cert_check.proofs.LineLemmas.{other_line, this_line}
 use Rattle.cert_check.proofs.PrintedWords.{head_is_words}
 
 -- a first line has words
 pub head_filled : (head : Head) → head_words head ≢ []
 head_filled head none = omega (arith, ap length none, length-append (claim_words head.claim head.den) (ROWS.now ∷ decimal head.count ∷ []))
 
--- no line is there
-pub no_head_line : (bytes : List ℕ) → All (λ b. b ≢ 10) bytes → IsFirstBad bytes 1
-no_head_line bytes free = inl (refl, no_line IsHead head_words bytes free)
-
 -- the line is no first line
-pub other_head_line : (bytes line rest : List ℕ) → bytes ≡ line ++ 10 ∷ rest → All (λ b. b ≢ 10) line → ((x : Head) → ¬ IsPrintedHead (words line) x) → IsFirstBad bytes 1
+pub other_head_line : (bytes line rest : List ℕ) → bytes ≡ line ++ 10 ∷ rest → All (λ b. b ≢ 10) line → ((x : Head) → ¬ IsPrintedHead (words line) x)
+    → IsFirstBad bytes 1
 other_head_line bytes line rest parts free none =
     inl (refl, other_line IsHead head_words bytes line rest head_is_words (λ x is. head_filled x) parts free (λ x is same. none x (is, same)))
 

@@ -57,7 +57,8 @@ one_cut (c ∷ a) (d ∷ b) x y h k e =
 
 -- where there is no newline, there is no line
 pub no_line : {A : Type 0} (Is : A → Type 0) (words_of : A → List (List ℕ)) (text : List ℕ) → All (λ b. b ≢ 10) text → BeginWithNo Is words_of text
-no_line Is words_of text h x rest is e = has (join_with_byte 32 (words_of x)) (subst (All (λ b. b ≢ 10)) (e ∙ append_assoc (join_with_byte 32 (words_of x)) (10 ∷ []) rest) h)
+no_line Is words_of text h x rest is e = has (join_with_byte 32 (words_of x))
+    (subst (All (λ b. b ≢ 10)) (e ∙ append_assoc (join_with_byte 32 (words_of x)) (10 ∷ []) rest) h)
   where
     has : (front : List ℕ) → All (λ b. b ≢ 10) (front ++ 10 ∷ rest) → ⊥
     has [] all = All-head (λ b. b ≢ 10) 10 rest all refl
@@ -69,7 +70,8 @@ pub other_line : {A : Type 0} (Is : A → Type 0) (words_of : A → List (List �
     → text ≡ line ++ 10 ∷ after → All (λ b. b ≢ 10) line → ((x : A) → Is x → words line ≢ words_of x) → BeginWithNo Is words_of text
 other_line Is words_of text line after are filled parts free other x rest is e =
     let ws : List (List ℕ) = words_of x in
-    let cut = one_cut line (join_with_byte 32 ws) after rest free (line_has_none ws (are x is)) (sym parts ∙ e ∙ append_assoc (join_with_byte 32 ws) (10 ∷ []) rest) in
+    let cut = one_cut line (join_with_byte 32 ws) after rest free (line_has_none ws (are x is))
+    (sym parts ∙ e ∙ append_assoc (join_with_byte 32 ws) (10 ∷ []) rest) in
     other x is (ap words cut.0 ∙ words_of_join ws (are x is) (filled x is))
   where
     words_of_join : (ws : List (List ℕ)) → AreWords ws → ws ≢ [] → words (join_with_byte 32 ws) ≡ ws
@@ -79,10 +81,12 @@ other_line Is words_of text line after are filled parts free other x rest is e =
 -- where the first line has these words, it is the line of them
 pub this_line : (text line after : List ℕ) (ws : List (List ℕ)) → text ≡ line ++ 10 ∷ after → words line ≡ ws → text ≡ line_of ws ++ after
 this_line text line after ws parts is =
-    parts ∙ ap (λ l. l ++ 10 ∷ after) (sym (join_with_byte-slice_split 32 line) ∙ ap (join_with_byte 32) is) ∙ sym (append_assoc (join_with_byte 32 ws) (10 ∷ []) after)
+    parts ∙ ap (λ l. l ++ 10 ∷ after) (sym (join_with_byte-slice_split 32 line) ∙ ap (join_with_byte 32) is)
+    ∙ sym (append_assoc (join_with_byte 32 ws) (10 ∷ []) after)
 
 -- two lines of words at the start of one text are one
-pub same_words : (xs ys : List (List ℕ)) (a b : List ℕ) → AreWords xs → AreWords ys → xs ≢ [] → ys ≢ [] → line_of xs ++ a ≡ line_of ys ++ b → (xs ≡ ys) × (a ≡ b)
+pub same_words : (xs ys : List (List ℕ)) (a b : List ℕ) → AreWords xs → AreWords ys → xs ≢ [] → ys ≢ [] → line_of xs ++ a ≡ line_of ys ++ b → (xs ≡ ys)
+    × (a ≡ b)
 same_words [] ys a b h k some other e = absurd (some refl)
 same_words (x ∷ xs) [] a b h k some other e = absurd (other refl)
 same_words (x ∷ xs) (y ∷ ys) a b h k some other e =

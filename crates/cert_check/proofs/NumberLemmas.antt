@@ -43,7 +43,8 @@ whole_text z = frac_text_whole (whole z) refl
 -- a whole number's text is that of no other
 pub one_whole : (word : List ℕ) (y z : ℤ) → IsInRange y → IsInRange z → word ≡ signed_decimal y → word ≡ signed_decimal z → y ≡ z
 one_whole word y z hy hz e d =
-    ap (λ (f : Fraction). f.num) (one_value word (whole y) (whole z) (IsValue-whole y hy) (IsValue-whole z hz) (e ∙ sym (whole_text y)) (d ∙ sym (whole_text z)))
+    ap (λ (f : Fraction). f.num) (one_value word (whole y) (whole z) (IsValue-whole y hy) (IsValue-whole z hz) (e ∙ sym (whole_text y))
+    (d ∙ sym (whole_text z)))
 
 -- a fraction that prints a whole number is over 1
 pub whole_den : (word : List ℕ) (f : Fraction) (z : ℤ) → IsValue f → IsInRange z → word ≡ frac_text f → word ≡ signed_decimal z → f.den ≡ pos 1
@@ -52,7 +53,8 @@ whole_den word f z hf hz e d = ap (λ (f : Fraction). f.den) (one_value word f (
 -- ---- positions
 
 -- a position's text as that of a whole number
-pub position_is : (word : List ℕ) (number : ℤ) (place : ℕ) → IsInRange number → word ≡ signed_decimal number → place ≤ 255 → word ≡ decimal place → number ≡ pos place
+pub position_is : (word : List ℕ) (number : ℤ) (place : ℕ) → IsInRange number → word ≡ signed_decimal number → place ≤ 255 → word ≡ decimal place
+    → number ≡ pos place
 position_is word number place h e small d = one_whole word number (pos place) h (omega arith) e d
 
 -- a position's text is that of no other
@@ -60,7 +62,8 @@ pub one_position : (word : List ℕ) (p q : ℕ) → p ≤ 255 → q ≤ 255 →
 one_position word p q hp hq e d = let same = one_whole word (pos p) (pos q) (omega arith) (omega arith) e d in omega (arith, ints)
 
 -- bytes other than the text of the fraction that was read are no fraction's text
-pub printed_otherwise : (word text : List ℕ) (r : Result Fraction FracFault) (read value : Fraction) → r ≡ Ok read → r ≡ Ok value → text ≡ frac_text read → word ≡ frac_text value → text ≢ word → ⊥
+pub printed_otherwise : (word text : List ℕ) (r : Result Fraction FracFault) (read value : Fraction) → r ≡ Ok read → r ≡ Ok value → text ≡ frac_text read
+    → word ≡ frac_text value → text ≢ word → ⊥
 printed_otherwise word text r read value is would printed e other =
     let same : read ≡ value = cc in
     other (printed ∙ ap frac_text same ∙ sym e)

@@ -37,7 +37,8 @@ one_entry x y hx hy e = step x.0 y.0 hx.0 hy.0 e
     numbers : signed_decimal x.1 ≡ signed_decimal y.1 → x.1 ≡ y.1
     numbers same = one_whole (signed_decimal x.1) x.1 y.1 hx.1 hy.1 refl same
 
-    step : (a b : Tag) → IsTagText a → IsTagText b → tag_words a ++ signed_decimal x.1 ∷ [] ≡ tag_words b ++ signed_decimal y.1 ∷ [] → ◌≡◌ {A = Tag × ℤ} (a, x.1) (b, y.1)
+    step : (a b : Tag) → IsTagText a → IsTagText b → tag_words a ++ signed_decimal x.1 ∷ [] ≡ tag_words b ++ signed_decimal y.1 ∷ []
+        → ◌≡◌ {A = Tag × ℤ} (a, x.1) (b, y.1)
     step (Lower p q) (Lower r s) h k d =
         let pair = same_pair p q r s h k (cc) (cc) in
         let number = numbers (cc) in
@@ -69,7 +70,8 @@ one_head x y hx hy e = step x.claim y.claim x.den y.den hx.claim hy.claim e
     counts : decimal x.count ≡ decimal y.count → x.count ≡ y.count
     counts same = let z = one_whole (decimal x.count) (pos x.count) (pos y.count) hx.count_fits hy.count_fits refl same in omega (arith, ints)
 
-    step : (a b : Claim) (m n : ℤ) → IsClaim a m → IsClaim b n → head_words (record { claim = a; den = m; count = x.count }) ≡ head_words (record { claim = b; den = n; count = y.count })
+    step : (a b : Claim) (m n : ℤ) → IsClaim a m → IsClaim b n
+        → head_words (record { claim = a; den = m; count = x.count }) ≡ head_words (record { claim = b; den = n; count = y.count })
         → ◌≡◌ {A = Head} (record { claim = a; den = m; count = x.count }) (record { claim = b; den = n; count = y.count })
     step (Least v) (Least w) m n h k d =
         let value = one_value (frac_text v) v w h.0 k.0 refl (cc) in
@@ -90,11 +92,18 @@ entries_of : (on all : List (Tag × ℤ)) (rest : List ℕ) → All IsEntryText 
     → (more : List (Tag × ℤ)) × (all ≡ on ++ more) × (rest ≡ entries_text more) × All IsEntryText more
 entries_of [] all rest h k e = (all, refl, e, k)
 entries_of (x ∷ on) [] rest h k e =
-    absurd (omega (arith, ap length (sym (append_assoc (line_of (entry_words x)) (entries_text on) rest) ∙ e), length-append (line_of (entry_words x)) (entries_text on ++ rest), length-append (join_with_byte 32 (entry_words x)) (10 ∷ [])))
+    absurd (omega (
+      arith,
+      ap length (sym (append_assoc (line_of (entry_words x)) (entries_text on) rest) ∙ e),
+      length-append (line_of (entry_words x))
+          (entries_text on ++ rest),
+      length-append (join_with_byte 32 (entry_words x)) (10 ∷ []),
+    ))
 entries_of (x ∷ on) (y ∷ all) rest h k e =
     let is_x = All-head IsEntryText x on h in
     let is_y = All-head IsEntryText y all k in
-    let cut = same_words (entry_words x) (entry_words y) (entries_text on ++ rest) (entries_text all) (entry_is_words x is_x) (entry_is_words y is_y) (entry_filled x) (entry_filled y)
+    let cut = same_words (entry_words x) (entry_words y) (entries_text on ++ rest) (entries_text all) (entry_is_words x is_x) (entry_is_words y is_y)
+    (entry_filled x) (entry_filled y)
     (sym (append_assoc (line_of (entry_words x)) (entries_text on) rest) ∙ e) in
     let same = one_entry x y is_x is_y cut.0 in
     let left = entries_of on all rest (All-tail IsEntryText x on h) (All-tail IsEntryText y all k) cut.1 in
@@ -104,7 +113,13 @@ entries_of (x ∷ on) (y ∷ all) rest h k e =
 no_entries : (more : List (Tag × ℤ)) → [] ≡ entries_text more → more ≡ []
 no_entries [] e = refl
 no_entries (x ∷ more) e =
-    absurd (omega (arith, ap length e, length-append (line_of (entry_words x)) (entries_text more), length-append (join_with_byte 32 (entry_words x)) (10 ∷ [])))
+    absurd (omega (
+      arith,
+      ap length e,
+      length-append (line_of (entry_words x)) (entries_text more),
+      length-append (join_with_byte 32 (entry_words x))
+          (10 ∷ []),
+    ))
 
 -- the first line and the entries of a text, as far as they were read
 record Beginning (cert : CertText) (head : Head) (on : List (Tag × ℤ)) (rest : List ℕ) : Type 0 where
@@ -117,7 +132,8 @@ record Beginning (cert : CertText) (head : Head) (on : List (Tag × ℤ)) (rest 
 beginning : (bytes : List ℕ) (cert : CertText) (head : Head) (on : List (Tag × ℤ)) (rest : List ℕ) → IsTextOf bytes cert → IsHead head → All IsEntryText on
     → bytes ≡ line_of (head_words head) ++ (entries_text on ++ rest) → Beginning cert head on rest
 beginning bytes cert head on rest t is entries parts =
-    let cut = same_words (head_words head) (head_words (head_of cert)) (entries_text on ++ rest) (entries_text cert.on) (head_is_words head is) (head_is_words (head_of cert) t.head)
+    let cut = same_words (head_words head) (head_words (head_of cert)) (entries_text on ++ rest) (entries_text cert.on) (head_is_words head is)
+    (head_is_words (head_of cert) t.head)
     (head_filled head) (head_filled (head_of cert)) (sym parts ∙ t.text) in
     let left = entries_of on cert.on rest entries t.entries cut.1 in
     record { same_head = one_head head (head_of cert) is t.head cut.0; more = left.0; all = left.1; left = left.2; are_entries = left.3 }
@@ -125,7 +141,8 @@ beginning bytes cert head on rest t is entries parts =
 -- two certificates of one text are one
 pub one_text : (bytes : List ℕ) (a b : CertText) → IsTextOf bytes a → IsTextOf bytes b → a ≡ b
 one_text bytes a b h k =
-    let start = beginning bytes b (head_of a) a.on [] k h.head h.entries (h.text ∙ ap (λ l. line_of (head_words (head_of a)) ++ l) (sym (append-nil (entries_text a.on)))) in
+    let start = beginning bytes b (head_of a) a.on [] k h.head h.entries
+    (h.text ∙ ap (λ l. line_of (head_words (head_of a)) ++ l) (sym (append-nil (entries_text a.on)))) in
     let on : a.on ≡ b.on = sym (start.all ∙ ap (λ l. a.on ++ l) (no_entries start.more start.left) ∙ append-nil a.on) in
     λ i. record { claim = (start.same_head i).claim; den = (start.same_head i).den; on = on i }
 
@@ -161,13 +178,15 @@ pub text_of : (bytes : List ℕ) (cert : CertText) → IsReadable cert → lengt
 text_of bytes cert h fits e = record { head = record { claim = h.claim; count_fits = fits }; entries = h.entries; text = e }
 
 -- what is read of it
-pub read_again : (bytes : List ℕ) (cert : CertText) (r : Result CertText CertFault) → IsTextOf bytes cert → MatchResult r (λ again. IsTextOf bytes again) (λ fault. IsFault bytes fault)
+pub read_again : (bytes : List ℕ) (cert : CertText) (r : Result CertText CertFault) → IsTextOf bytes cert
+    → MatchResult r (λ again. IsTextOf bytes again) (λ fault. IsFault bytes fault)
     → MatchResult r (λ again. again ≡ cert) (λ fault. fault ≡ NoMemory)
 read_again bytes cert (Ok again) t h = one_text bytes again cert h t
 read_again bytes cert (Err (Bad k)) t h = absurd (no_bad_line bytes cert k t h)
 read_again bytes cert (Err NoMemory) t h = refl
 
 -- what was read can be printed
-pub printable_read : (bytes : List ℕ) (r : Result CertText CertFault) → MatchResult r (λ cert. IsTextOf bytes cert) (λ fault. IsFault bytes fault) → IfOk r IsPrintable
+pub printable_read : (bytes : List ℕ) (r : Result CertText CertFault) → MatchResult r (λ cert. IsTextOf bytes cert) (λ fault. IsFault bytes fault)
+    → IfOk r IsPrintable
 printable_read bytes (Ok cert) t = printable cert (record { claim = t.head.claim; entries = t.entries })
 printable_read bytes (Err fault) t = tt

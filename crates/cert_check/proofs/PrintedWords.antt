@@ -69,7 +69,13 @@ value_is_word value h =
 tag_is_words : (tag : Tag) → IsTagText tag → AreWords (tag_words tag)
 tag_is_words (Lower p q) h = (refl, (decimal_is_word p (omega arith), (decimal_is_word q (omega arith), tt)))
 tag_is_words (Zero p q) h = (refl, (decimal_is_word p (omega arith), (decimal_is_word q (omega arith), tt)))
-tag_is_words (Cross p q x y) h = (refl, (decimal_is_word p (omega arith), (decimal_is_word q (omega arith), (decimal_is_word x (omega arith), (decimal_is_word y (omega arith), tt)))))
+tag_is_words (Cross p q x y) h = (
+  refl,
+  (
+    decimal_is_word p (omega arith),
+    (decimal_is_word q (omega arith), (decimal_is_word x (omega arith), (decimal_is_word y (omega arith), tt))),
+  ),
+)
 tag_is_words (Order p) h = absurd h
 
 -- an entry
@@ -83,4 +89,5 @@ claim_is_words Nothing den h = (refl, tt)
 
 -- a first line
 pub head_is_words : (head : Head) → IsHead head → AreWords (head_words head)
-head_is_words head h = words-append (claim_words head.claim head.den) (ROWS.now ∷ decimal head.count ∷ []) (claim_is_words head.claim head.den h.claim) (refl, (decimal_is_word head.count (let fits = h.count_fits in omega arith), tt))
+head_is_words head h = words-append (claim_words head.claim head.den) (ROWS.now ∷ decimal head.count ∷ []) (claim_is_words head.claim head.den h.claim)
+    (refl, (decimal_is_word head.count (let fits = h.count_fits in omega arith), tt))

@@ -23,7 +23,8 @@ line-last old ws last =
     ∙ ap (λ l. old ++ l) (sym (append_assoc (spaced ws) last (10 ∷ [])) ∙ ap (λ l. l ++ 10 ∷ []) (sym (join-last ws last)))
 
 -- one word more before it
-pub line-two_last : (old : List ℕ) (ws : List (List ℕ)) (word last : List ℕ) → ((old ++ spaced ws) ++ (word ++ 32 ∷ [])) ++ (last ++ 10 ∷ []) ≡ old ++ line_of (ws ++ word ∷ last ∷ [])
+pub line-two_last : (old : List ℕ) (ws : List (List ℕ)) (word last : List ℕ)
+    → ((old ++ spaced ws) ++ (word ++ 32 ∷ [])) ++ (last ++ 10 ∷ []) ≡ old ++ line_of (ws ++ word ∷ last ∷ [])
 line-two_last old ws word last =
     ap (λ l. l ++ (last ++ 10 ∷ [])) (append_assoc old (spaced ws) (word ++ 32 ∷ []) ∙ ap (λ l. old ++ (spaced ws ++ l)) (sym (append-nil (word ++ 32 ∷ [])))
     ∙ ap (λ l. old ++ l) (sym (flat_map-append (λ word. word ++ 32 ∷ []) ws (word ∷ []))))
@@ -31,7 +32,8 @@ line-two_last old ws word last =
     ∙ ap (λ l. old ++ line_of l) (append_assoc ws (word ∷ []) (last ∷ []))
 
 -- the entries, with the line of one more
-pub entries-next : (old now next : List ℕ) (on : List (Tag × ℤ)) (i : ℕ) (d : Tag × ℤ) → i < length on → now ≡ old ++ entries_text (take i on) → next ≡ now ++ line_of (entry_words (get_or on i d))
+pub entries-next : (old now next : List ℕ) (on : List (Tag × ℤ)) (i : ℕ) (d : Tag × ℤ) → i < length on → now ≡ old ++ entries_text (take i on)
+    → next ≡ now ++ line_of (entry_words (get_or on i d))
     → next ≡ old ++ entries_text (take (i + 1) on)
 entries-next old now next on i d below so_far added =
     added ∙ ap (λ l. l ++ line_of (entry_words (get_or on i d))) so_far

@@ -8,24 +8,6 @@ use Rattle.cert_check.specs.declared.verdict.Verdict.{Verdict}
 use Rattle.cert_check.specs.declared.verdict.Verdict.TheVariants.{Holds, Fails}
 use Rattle.cert_check.specs.Lines.{Check, IsBefore, Passes, IsReached, IsPassed, AllSay, IsVerdict, IsFirstTooWide, Decides}
 
--- the denominator, if it is checked, comes first
-pub reached-den : (check : Check) → check.IsLine Den → IsReached check Den
-reached-den check here = record { is_line = here; passed = step }
-  where
-    step : (line : Place) → check.IsLine line → IsBefore line Den → Passes check line
-    step line is_line before = absurd before
-
--- the entries before it
-pub reached-entry : (check : Check) (k : ℕ) → check.IsLine (Entry k) → (check.IsLine Den → Passes check Den)
-    → ((i : ℕ) → check.IsLine (Entry i) → i < k → Passes check (Entry i)) → IsReached check (Entry k)
-reached-entry check k here den entries = record { is_line = here; passed = step }
-  where
-    step : (line : Place) → check.IsLine line → IsBefore line (Entry k) → Passes check line
-    step Den is_line before = den is_line
-    step (Entry i) is_line before = entries i is_line before
-    step (Column i) is_line before = absurd before
-    step Bound is_line before = absurd before
-
 -- all entries, and the columns before it
 pub reached-column : (check : Check) (k : ℕ) → check.IsLine (Column k) → (check.IsLine Den → Passes check Den)
     → ((i : ℕ) → check.IsLine (Entry i) → Passes check (Entry i))
@@ -61,7 +43,8 @@ passed-all check reached bound = step
     step Bound is_line = bound
 
 -- a verdict decides what all lines together say
-pub Decides-from_verdict : (check : Check) (Fact : Type 0) → AllSay check ↔ Fact → (result : Result Verdict TooWide) → IsVerdict check result → Decides Fact result
+pub Decides-from_verdict : (check : Check) (Fact : Type 0) → AllSay check ↔ Fact → (result : Result Verdict TooWide) → IsVerdict check result
+    → Decides Fact result
 Decides-from_verdict check Fact same (Ok Holds) passed = same.0 (λ line is_line. (passed line is_line).0)
 Decides-from_verdict check Fact same (Ok (Fails place)) first = λ fact. first.false (same.1 fact place first.reached.is_line)
 Decides-from_verdict check Fact same (Err wide) first = tt

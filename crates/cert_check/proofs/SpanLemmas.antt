@@ -9,42 +9,48 @@ use Rattle.frac128.specs.Range.{IsInRange}
 use Rattle.frac128.specs.declared.problem.Cert.{Cert}
 use Rattle.frac128.proofs.Combination.{below_cost-from_places, below_cost-at}
 use Rattle.cert_check.specs.Entries.{IsEntry, products_on, added_in_turn, coefficient, bound}
-use Rattle.cert_check.specs.First.{IsFirstFailing}
 use Rattle.cert_check.specs.Columns.{IsColumnBelow, ColumnFits, PassBefore, IsFailingColumn, IsWideColumn}
 use Rattle.cert_check.specs.Lines.{Passes, IsReached, IsFirstFalse, IsFirstTooWide, IsPassed, AllSay, span_check, IsCommonLine}
 use Rattle.cert_check.specs.declared.verdict.Place.TheVariants.{Den, Entry, Column, Bound}
 use Rattle.cert_check.proofs.CertificateLemmas.{coefficient_is, bound_is}
 use Rattle.cert_check.proofs.EntryLemmas.{IsEntry-at}
 use Rattle.cert_check.proofs.FarkasLemmas.{entries_from_lines, back}
-use Rattle.cert_check.proofs.ReachedLemmas.{reached-den, reached-entry, reached-column, reached-bound, passed-all}
+use Rattle.cert_check.proofs.ReachedLemmas.{reached-column, reached-bound, passed-all}
 
 -- nothing is formed for an entry
 entry_passes : (p : ProblemData) (value : Fraction) (cert : Cert) (k : ℕ) → IsEntry (length p.rows) cert.on (k - 1) → Passes (span_check p value cert) (Entry k)
 entry_passes p value cert k says = (says, All-nil IsInRange)
 
 -- entries that are as they should be
-entries_pass : (p : ProblemData) (value : Fraction) (cert : Cert) → AreRowMultipliers (length p.rows) cert.on → (k : ℕ) → IsCommonLine p cert (Entry k) → Passes (span_check p value cert) (Entry k)
+entries_pass : (p : ProblemData) (value : Fraction) (cert : Cert) → AreRowMultipliers (length p.rows) cert.on → (k : ℕ) → IsCommonLine p cert (Entry k)
+    → Passes (span_check p value cert) (Entry k)
 entries_pass p value cert all k line = entry_passes p value cert k (IsEntry-at (length p.rows) cert.on all (k - 1) (omega arith))
 
 -- a coefficient
-says_column : (p : ProblemData) (cert : Cert) (j : ℕ) → IsColumnBelow p cert.den cert.on j → get_or (combination p cert.on).coefs j (pos 0) ≤ℤ (cert.den *ℤ get_or p.cost j (pos 0))
+says_column : (p : ProblemData) (cert : Cert) (j : ℕ) → IsColumnBelow p cert.den cert.on j
+    → get_or (combination p cert.on).coefs j (pos 0) ≤ℤ (cert.den *ℤ get_or p.cost j (pos 0))
 says_column p cert j below = subst (λ z. z ≤ℤ (cert.den *ℤ get_or p.cost j (pos 0))) (coefficient_is p cert.on j) below
 
-below_column : (p : ProblemData) (cert : Cert) (j : ℕ) → get_or (combination p cert.on).coefs j (pos 0) ≤ℤ (cert.den *ℤ get_or p.cost j (pos 0)) → IsColumnBelow p cert.den cert.on j
+below_column : (p : ProblemData) (cert : Cert) (j : ℕ) → get_or (combination p cert.on).coefs j (pos 0) ≤ℤ (cert.den *ℤ get_or p.cost j (pos 0))
+    → IsColumnBelow p cert.den cert.on j
 below_column p cert j says = subst (λ z. z ≤ℤ (cert.den *ℤ get_or p.cost j (pos 0))) (sym (coefficient_is p cert.on j)) says
 
 -- what is formed for a column is in range
-fits_column : (p : ProblemData) (cert : Cert) (j : ℕ) → ColumnFits p cert.den cert.on j → All IsInRange ((cert.den *ℤ get_or p.cost j (pos 0)) ∷ added_in_turn (pos 0) (products_on (coefficient j) p.rows cert.on))
-fits_column p cert j fits = All-cons IsInRange (cert.den *ℤ get_or p.cost j (pos 0)) (added_in_turn (pos 0) (products_on (coefficient j) p.rows cert.on)) fits.most fits.sums
+fits_column : (p : ProblemData) (cert : Cert) (j : ℕ) → ColumnFits p cert.den cert.on j
+    → All IsInRange ((cert.den *ℤ get_or p.cost j (pos 0)) ∷ added_in_turn (pos 0) (products_on (coefficient j) p.rows cert.on))
+fits_column p cert j fits = All-cons IsInRange (cert.den *ℤ get_or p.cost j (pos 0)) (added_in_turn (pos 0) (products_on (coefficient j) p.rows cert.on))
+    fits.most fits.sums
 
-column_fits : (p : ProblemData) (cert : Cert) (j : ℕ) → All IsInRange ((cert.den *ℤ get_or p.cost j (pos 0)) ∷ added_in_turn (pos 0) (products_on (coefficient j) p.rows cert.on)) → ColumnFits p cert.den cert.on j
+column_fits : (p : ProblemData) (cert : Cert) (j : ℕ) → All IsInRange
+    ((cert.den *ℤ get_or p.cost j (pos 0)) ∷ added_in_turn (pos 0) (products_on (coefficient j) p.rows cert.on)) → ColumnFits p cert.den cert.on j
 column_fits p cert j fits = record {
   sums = All-tail IsInRange (cert.den *ℤ get_or p.cost j (pos 0)) (added_in_turn (pos 0) (products_on (coefficient j) p.rows cert.on)) fits;
   most = All-head IsInRange (cert.den *ℤ get_or p.cost j (pos 0)) (added_in_turn (pos 0) (products_on (coefficient j) p.rows cert.on)) fits;
 }
 
 -- columns that were found to pass
-columns_pass : (p : ProblemData) (value : Fraction) (cert : Cert) (n k : ℕ) → PassBefore p cert.den cert.on n → 1 ≤ k → k ≤ n → Passes (span_check p value cert) (Column k)
+columns_pass : (p : ProblemData) (value : Fraction) (cert : Cert) (n k : ℕ) → PassBefore p cert.den cert.on n → 1 ≤ k → k ≤ n
+    → Passes (span_check p value cert) (Column k)
 columns_pass p value cert n k before least most =
     let inside : k - 1 < n = omega arith in
     (says_column p cert (k - 1) (before.below (k - 1) inside), fits_column p cert (k - 1) (before.fit (k - 1) inside))
@@ -55,35 +61,27 @@ den_passes p value cert positive = (positive, All-nil IsInRange)
 
 -- ---- what each end of the check amounts to
 
--- a denominator that is false
-pub span-den : (p : ProblemData) (value : Fraction) (cert : Cert) → ¬ (pos 0 <ℤ cert.den) → IsFirstFalse (span_check p value cert) Den
-span-den p value cert false = record { reached = reached-den (span_check p value cert) tt; fits = All-nil IsInRange; false = false }
-
--- an entry that is false
-pub span-entry : (p : ProblemData) (value : Fraction) (cert : Cert) (i : ℕ) → pos 0 <ℤ cert.den → IsFirstFailing (IsEntry (length p.rows) cert.on) (length cert.on) i → IsFirstFalse (span_check p value cert) (Entry (i + 1))
-span-entry p value cert i positive first = record {
-  reached = reached-entry (span_check p value cert) (i + 1) (omega arith, (let h = first.below in omega arith)) (λ line. den_passes p value cert positive)
-      (λ k line less. entry_passes p value cert k (first.hold (k - 1) (omega arith)));
-  fits = All-nil IsInRange;
-  false = λ says. first.fails (subst (IsEntry (length p.rows) cert.on) (back i) says);
-}
-
 -- the check comes to a column
-reached : (p : ProblemData) (value : Fraction) (cert : Cert) (j : ℕ) → pos 0 <ℤ cert.den → AreRowMultipliers (length p.rows) cert.on → j < p.vars → PassBefore p cert.den cert.on j → IsReached (span_check p value cert) (Column (j + 1))
+reached : (p : ProblemData) (value : Fraction) (cert : Cert) (j : ℕ) → pos 0 <ℤ cert.den → AreRowMultipliers (length p.rows) cert.on → j < p.vars
+    → PassBefore p cert.den cert.on j → IsReached (span_check p value cert) (Column (j + 1))
 reached p value cert j positive entries inside before =
     reached-column (span_check p value cert) (j + 1) (omega arith, omega arith) (λ line. den_passes p value cert positive) (entries_pass p value cert entries)
     (λ k line less. columns_pass p value cert j k before line.0 (omega arith))
 
 -- a column that is false
-pub span-column : (p : ProblemData) (value : Fraction) (cert : Cert) (j : ℕ) → pos 0 <ℤ cert.den → AreRowMultipliers (length p.rows) cert.on → IsFailingColumn p cert.den cert.on j → IsFirstFalse (span_check p value cert) (Column (j + 1))
+pub span-column : (p : ProblemData) (value : Fraction) (cert : Cert) (j : ℕ) → pos 0 <ℤ cert.den → AreRowMultipliers (length p.rows) cert.on
+    → IsFailingColumn p cert.den cert.on j → IsFirstFalse (span_check p value cert) (Column (j + 1))
 span-column p value cert j positive entries failing = record {
   reached = reached p value cert j positive entries failing.column failing.before;
-  fits = subst (λ n. All IsInRange ((cert.den *ℤ get_or p.cost n (pos 0)) ∷ added_in_turn (pos 0) (products_on (coefficient n) p.rows cert.on))) (sym (back j)) (fits_column p cert j failing.fits);
-  false = λ says. failing.fails (below_column p cert j (subst (λ n. get_or (combination p cert.on).coefs n (pos 0) ≤ℤ (cert.den *ℤ get_or p.cost n (pos 0))) (back j) says));
+  fits = subst (λ n. All IsInRange ((cert.den *ℤ get_or p.cost n (pos 0)) ∷ added_in_turn (pos 0) (products_on (coefficient n) p.rows cert.on))) (sym (back j))
+      (fits_column p cert j failing.fits);
+  false = λ says. failing.fails (below_column p cert j (subst (λ n. get_or (combination p cert.on).coefs n (pos 0) ≤ℤ (cert.den *ℤ get_or p.cost n (pos 0)))
+      (back j) says));
 }
 
 -- a column that is too wide
-pub span-wide_column : (p : ProblemData) (value : Fraction) (cert : Cert) (j : ℕ) → pos 0 <ℤ cert.den → AreRowMultipliers (length p.rows) cert.on → IsWideColumn p cert.den cert.on j → IsFirstTooWide (span_check p value cert) (Column (j + 1))
+pub span-wide_column : (p : ProblemData) (value : Fraction) (cert : Cert) (j : ℕ) → pos 0 <ℤ cert.den → AreRowMultipliers (length p.rows) cert.on
+    → IsWideColumn p cert.den cert.on j → IsFirstTooWide (span_check p value cert) (Column (j + 1))
 span-wide_column p value cert j positive entries wide = record {
   reached = reached p value cert j positive entries wide.column wide.before;
   too_wide = λ fits. wide.wide (column_fits p cert j
@@ -91,17 +89,21 @@ span-wide_column p value cert j positive entries wide = record {
 }
 
 -- the check comes to the bound
-pub span-reached_bound : (p : ProblemData) (value : Fraction) (cert : Cert) → pos 0 <ℤ cert.den → AreRowMultipliers (length p.rows) cert.on → PassBefore p cert.den cert.on p.vars → IsReached (span_check p value cert) Bound
+pub span-reached_bound : (p : ProblemData) (value : Fraction) (cert : Cert) → pos 0 <ℤ cert.den → AreRowMultipliers (length p.rows) cert.on
+    → PassBefore p cert.den cert.on p.vars → IsReached (span_check p value cert) Bound
 span-reached_bound p value cert positive entries before =
-    reached-bound (span_check p value cert) tt (λ line. den_passes p value cert positive) (entries_pass p value cert entries) (λ k line. columns_pass p value cert p.vars k before line.0 line.1)
+    reached-bound (span_check p value cert) tt (λ line. den_passes p value cert positive) (entries_pass p value cert entries)
+    (λ k line. columns_pass p value cert p.vars k before line.0 line.1)
 
 -- the bound is too wide
-pub span-wide_bound : (p : ProblemData) (value : Fraction) (cert : Cert) → pos 0 <ℤ cert.den → AreRowMultipliers (length p.rows) cert.on → PassBefore p cert.den cert.on p.vars
+pub span-wide_bound : (p : ProblemData) (value : Fraction) (cert : Cert) → pos 0 <ℤ cert.den → AreRowMultipliers (length p.rows) cert.on
+    → PassBefore p cert.den cert.on p.vars
     → ¬ All IsInRange (added_in_turn (pos 0) (products_on bound p.rows cert.on)) → IsFirstTooWide (span_check p value cert) Bound
 span-wide_bound p value cert positive entries before wide = record { reached = span-reached_bound p value cert positive entries before; too_wide = wide }
 
 -- the bound is false
-pub span-bound : (p : ProblemData) (value : Fraction) (cert : Cert) (sum : ℤ) → pos 0 <ℤ cert.den → AreRowMultipliers (length p.rows) cert.on → PassBefore p cert.den cert.on p.vars
+pub span-bound : (p : ProblemData) (value : Fraction) (cert : Cert) (sum : ℤ) → pos 0 <ℤ cert.den → AreRowMultipliers (length p.rows) cert.on
+    → PassBefore p cert.den cert.on p.vars
     → All IsInRange (added_in_turn (pos 0) (products_on bound p.rows cert.on)) → sum ≡ int_sum (products_on bound p.rows cert.on)
     → ¬ SameFraction (record { num = sum; den = cert.den }) value → IsFirstFalse (span_check p value cert) Bound
 span-bound p value cert sum positive entries before fits is false = record {
@@ -111,7 +113,8 @@ span-bound p value cert sum positive entries before fits is false = record {
 }
 
 -- all lines pass
-pub span-passed : (p : ProblemData) (value : Fraction) (cert : Cert) (sum : ℤ) → pos 0 <ℤ cert.den → AreRowMultipliers (length p.rows) cert.on → PassBefore p cert.den cert.on p.vars
+pub span-passed : (p : ProblemData) (value : Fraction) (cert : Cert) (sum : ℤ) → pos 0 <ℤ cert.den → AreRowMultipliers (length p.rows) cert.on
+    → PassBefore p cert.den cert.on p.vars
     → All IsInRange (added_in_turn (pos 0) (products_on bound p.rows cert.on)) → sum ≡ int_sum (products_on bound p.rows cert.on)
     → SameFraction (record { num = sum; den = cert.den }) value → IsPassed (span_check p value cert)
 span-passed p value cert sum positive entries before fits is same =
@@ -121,7 +124,8 @@ span-passed p value cert sum positive entries before fits is same =
 -- ---- the certificate
 
 -- the lines together say that it is one
-pub span-lines : (p : ProblemData) (value : Fraction) (cert : Cert) → IsProblem p → IsFraction value → AllSay (span_check p value cert) ↔ IsSpanCertificate p cert value
+pub span-lines : (p : ProblemData) (value : Fraction) (cert : Cert) → IsProblem p → IsFraction value
+    → AllSay (span_check p value cert) ↔ IsSpanCertificate p cert value
 span-lines p value cert ok fraction = (certificate, lines)
   where
     certificate : AllSay (span_check p value cert) → IsSpanCertificate p cert value
@@ -132,7 +136,8 @@ span-lines p value cert ok fraction = (certificate, lines)
           value_den_pos = fraction;
           entries = entries;
           below_cost = below_cost-from_places p ok cert.on entries.positions_below cert.den
-              (λ j inside. subst (λ n. get_or (combination p cert.on).coefs n (pos 0) ≤ℤ (cert.den *ℤ get_or p.cost n (pos 0))) (back j) (say (Column (j + 1)) (omega arith, omega arith)));
+              (λ j inside. subst (λ n. get_or (combination p cert.on).coefs n (pos 0) ≤ℤ (cert.den *ℤ get_or p.cost n (pos 0))) (back j)
+              (say (Column (j + 1)) (omega arith, omega arith)));
           value_is = say Bound tt;
         }
 

@@ -1,8 +1,8 @@
 -- The sums over the entries of a certificate, entry by entry.
-use Rattle.std.proofs.Common.{◌≡◌, ◌↔◌, ℕ, ◌+◌, ◌<◌, length, drop, List, [], ◌∷◌, ℤ, pos, ◌+ℤ◌, ◌*ℤ◌, sym, ap, ap₂, subst, ◌∙◌, ◌≤◌, arith}
+use Rattle.std.proofs.Common.{◌≡◌, ◌↔◌, ℕ, ◌+◌, ◌<◌, length, drop, List, ◌∷◌, ℤ, pos, ◌+ℤ◌, ◌*ℤ◌, sym, ap, ap₂, subst, ◌∙◌, arith}
 use Rattle.std.specs.Prelude.{All, Result, Ok, Err, IsErr, OkIff}
-use Rattle.std.proofs.lemmas.List.{drop_more, drop_all}
-use Rattle.std.proofs.lemmas.List.Elements.{All-nil, All-cons, All-head, All-tail}
+use Rattle.std.proofs.lemmas.List.{drop_more}
+use Rattle.std.proofs.lemmas.List.Elements.{All-cons, All-head, All-tail}
 use Rattle.integers.specs.Vector.{int_sum}
 use Rattle.integers.proofs.Laws.{lin}
 use Rattle.frac128.specs.Problem.{row_at}
@@ -11,7 +11,8 @@ use Rattle.frac128.specs.declared.problem.Row.{Row}
 use Rattle.cert_check.specs.Entries.{entry_at, products_on, added_in_turn}
 
 -- what is formed where a number and others are added to s
-fits-cons : (s x : ℤ) (xs : List ℤ) → All IsInRange (added_in_turn s (x ∷ xs)) ↔ ((IsInRange x × IsInRange (s +ℤ x)) × All IsInRange (added_in_turn (s +ℤ x) xs))
+fits-cons : (s x : ℤ) (xs : List ℤ) → All IsInRange (added_in_turn s (x ∷ xs)) ↔
+    ((IsInRange x × IsInRange (s +ℤ x)) × All IsInRange (added_in_turn (s +ℤ x) xs))
 fits-cons s x xs =
     let rest : List ℤ = added_in_turn (s +ℤ x) xs in (
       (λ all. let tail = All-tail IsInRange x ((s +ℤ x) ∷ rest) all in
@@ -23,10 +24,6 @@ fits-cons s x xs =
 pub record IsSumBefore (number : Row → ℤ) (rows : List Row) (on : List (ℕ × ℤ)) (i : ℕ) (s : ℤ) : Type 0 where
   pub sum_is : int_sum (products_on number rows on) ≡ s +ℤ int_sum (products_on number rows (drop i on))
   pub fits : All IsInRange (added_in_turn (pos 0) (products_on number rows on)) ↔ All IsInRange (added_in_turn s (products_on number rows (drop i on)))
-
--- before the first entry
-pub IsSumBefore-start : (number : Row → ℤ) (rows : List Row) (on : List (ℕ × ℤ)) → IsSumBefore number rows on 0 (pos 0)
-IsSumBefore-start number rows on = record { sum_is = omega (arith, lin); fits = ((λ h. h), (λ h. h)) }
 
 -- the product of an entry, and the sum with it
 pub record IsNextProduct (number : Row → ℤ) (rows : List Row) (on : List (ℕ × ℤ)) (i : ℕ) (m x : ℤ) : Type 0 where
@@ -61,15 +58,6 @@ IsSumBefore-wide number rows on i s m x h wide so_far all =
     let step = sum-step number rows on i m x h in
     let left = subst (λ xs. All IsInRange (added_in_turn s xs)) step (so_far.fits.0 all) in
     wide ((fits-cons s (m *ℤ x) (products_on number rows (drop (i + 1) on))).0 left).0
-
--- past the last entry
-pub IsSumBefore-end : (number : Row → ℤ) (rows : List Row) (on : List (ℕ × ℤ)) (i : ℕ) (s : ℤ) → length on ≤ i → IsSumBefore number rows on i s
-    → All IsInRange (added_in_turn (pos 0) (products_on number rows on)) × (s ≡ int_sum (products_on number rows on))
-IsSumBefore-end number rows on i s past so_far =
-    let done : drop i on ≡ [] = drop_all i on past in
-    let none : products_on number rows (drop i on) ≡ [] = ap (λ rest. products_on number rows rest) done in
-    let is = subst (λ xs. int_sum (products_on number rows on) ≡ s +ℤ int_sum xs) none so_far.sum_is in
-    (so_far.fits.1 (subst (λ xs. All IsInRange (added_in_turn s xs)) (sym none) (All-nil IsInRange)), omega (arith, lin))
 
 -- an answer that is a refusal, where the fact doesn't hold
 pub OkIff-refused : {T E : Type 0} (r : Result T E) (P : Type 0) (v : T) → IsErr r → ¬ P → OkIff r P v

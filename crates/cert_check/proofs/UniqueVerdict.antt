@@ -51,7 +51,8 @@ one_answer check (Ok Holds) (Ok Holds) h k = refl
 one_answer check (Ok Holds) (Ok (Fails b)) h k = absurd (k.false (h b k.reached.is_line).0)
 one_answer check (Ok Holds) (Err d) h k = absurd (k.1.too_wide (h k.0 k.1.reached.is_line).1)
 one_answer check (Ok (Fails a)) (Ok Holds) h k = absurd (h.false (k a h.reached.is_line).0)
-one_answer check (Ok (Fails a)) (Ok (Fails b)) h k = ap (λ place. Ok (Fails place)) (one_stop check a b h.reached k.reached (λ p. h.false p.0) (λ p. k.false p.0))
+one_answer check (Ok (Fails a)) (Ok (Fails b)) h k = ap (λ place. Ok (Fails place))
+    (one_stop check a b h.reached k.reached (λ p. h.false p.0) (λ p. k.false p.0))
 one_answer check (Ok (Fails a)) (Err d) h k =
     let same = one_stop check a k.0 h.reached k.1.reached (λ p. h.false p.0) (λ p. k.1.too_wide p.1) in
     absurd (k.1.too_wide (subst (Fits check) same h.fits))

@@ -7,7 +7,8 @@ use Rattle.frac128.specs.declared.problem.Row.{Row}
 abbrev pub entry_at : List (ℕ × ℤ) → ℕ → ℕ × ℤ
 entry_at on i = get_or on i (0, pos 0)
 
--- the entry at a place names one of so many rows, which stands after that of the entry before, with a multiplier of at least 0
+-- the entry at a place names one of so many rows, which stands after that of the entry before, with a multiplier of at
+-- least 0
 pub record IsEntry (count : ℕ) (on : List (ℕ × ℤ)) (i : ℕ) : Type 0 where
   pub names_row : (entry_at on i).0 < count
   pub after_last : (k : ℕ) → k + 1 ≡ i → (entry_at on k).0 < (entry_at on i).0

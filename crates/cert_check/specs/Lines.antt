@@ -1,5 +1,5 @@
--- The lines that are checked of a certificate, in order, and what is to be answered: the first that is false, or that a line formed
--- a number out of range before one was.
+-- The lines that are checked of a certificate, in order, and what is to be answered: the first that is false, or that a
+-- line formed a number out of range before one was.
 use Rattle.std.specs.Prelude.{◌≡◌, ℕ, ◌-◌, ◌<◌, ◌≤◌, List, [], ◌∷◌, length, ℤ, pos, ◌*ℤ◌, ◌≤ℤ◌, ◌<ℤ◌, All, ⊤, Result, Ok, Err, get_or}
 use Rattle.integers.specs.Fraction.{Fraction, SameFraction}
 use Rattle.frac128.specs.Problem.{ProblemData, combination}
@@ -128,7 +128,12 @@ span_formed_at p cert place = formed_at p cert place
 
 -- whether a certificate is a span certificate of a value
 abbrev pub span_check : ProblemData → Fraction → Cert → Check
-span_check p value cert = record { IsLine = IsSpanLine p cert; Says = SpanLineSays p value cert; formed = span_formed_at p cert }
+span_check p value cert = record {
+  IsLine = IsSpanLine p cert;
+  Says = SpanLineSays p value cert;
+  formed =
+      span_formed_at p cert;
+}
 
 -- whether a certificate is a Farkas certificate
 abbrev pub farkas_check : ProblemData → Cert → Check

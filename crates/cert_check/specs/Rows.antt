@@ -1,5 +1,5 @@
 -- A certificate that names rows by their tags, and the same one by their positions in the problem of a matrix.
-use Rattle.std.specs.Prelude.{◌≡◌, ℕ, ◌+◌, ◌-◌, ◌<◌, ◌≤◌, List, length, map, get_or, ℤ, pos, ◌≤ℤ◌, ◌<ℤ◌, Option, Some, slice_get, Contains}
+use Rattle.std.specs.Prelude.{◌≡◌, ℕ, ◌+◌, ◌-◌, ◌<◌, ◌≤◌, List, length, map, get_or, ℤ, pos, ◌≤ℤ◌, ◌<ℤ◌, All, ⊤, Option, Some, slice_get, Contains}
 use Rattle.frac128.specs.declared.problem.Cert.{Cert}
 use Rattle.judgement_matrix.specs.Matrix.{Judgements}
 use Rattle.judgement_matrix.specs.Scale.{difference}
@@ -38,6 +38,15 @@ IsRowAt m on i = Contains (judged_rows m) (get_or on i (Lower 0 0, pos 0)).0
 abbrev pub IsPlaced : Judgements → CertText → Placed → Type 0
 IsPlaced m text (Known cert) = IsNamed m text cert
 IsPlaced m text (NoRow k) = (1 ≤ k) × IsFirstFailing (IsRowAt m text.on) (length text.on) (k - 1)
+
+-- the row of each entry is one of the problem of the matrix
+abbrev pub AreRows : Judgements → List (ℕ × ℤ) → Type 0
+AreRows m on = All (λ (e : ℕ × ℤ). e.0 < length (judged_rows m)) on
+
+-- and so of what was placed
+abbrev pub HasRows : Judgements → Placed → Type 0
+HasRows m (Known cert) = AreRows m cert.on
+HasRows m (NoRow k) = ⊤
 
 -- no number is below the next
 abbrev pub NeverRises : Judgements → List ℤ → Type 0

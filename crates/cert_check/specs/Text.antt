@@ -1,4 +1,5 @@
--- Certificates as text: lines of words. The first line says what the certificate shows, and each line after it is an entry.
+-- Certificates as text: lines of words. The first line says what the certificate shows, and each line after it is an
+-- entry.
 use Rattle.std.specs.Prelude.{◌≡◌, ◌≢◌, ◌⊎◌, ℕ, ◌+◌, ◌<◌, ◌≤◌, ◌^◌, ◌++◌, List, [], ◌∷◌, length, ℤ, pos, All, ⊤}
 use Rattle.std.specs.Fmt.{decimal, signed_decimal}
 use Rattle.std.specs.List.{flat_map, join_with_byte}

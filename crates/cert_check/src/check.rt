@@ -117,7 +117,8 @@ fn false_column(problem: &Problem, den: Number, cert: &Cert) -> Result<Option<us
 // The bound of the combination.
 fn bound_of_all(problem: &Problem, cert: &Cert) -> Result<Number, TooWide>
     requires { AreRowMultipliers (length problem.now.rows) cert.now.on }
-    ensures { OkIff result (All IsInRange (added_in_turn (pos 0) (products_on bound problem.now.rows cert.now.on)))
+    ensures { OkIff result (All IsInRange (added_in_turn (pos 0)
+        (products_on bound problem.now.rows cert.now.on)))
         (int_sum (products_on bound problem.now.rows cert.now.on)) }
 {
     bound_sum(problem, cert.on.as_slice())

@@ -56,6 +56,7 @@ fn span_certificates(rt: HostRuntime) -> Result<(), Fail> {
     for (value, den, entries, want) in [
         (5, 1, [Some((0, 1)), Some((2, 1))], Ok(Verdict::Holds)),
         (5, MOST, [Some((0, MOST)), None], Err(TooWide)),
+        (5, 1, [Some((1, MOST)), Some((2, MOST))], Err(TooWide)),
         (0, MOST, [None, None], Ok(Verdict::Holds)),
         (5, 0, [None, None], Ok(Verdict::Fails(Place::Den))),
         (

@@ -17,7 +17,8 @@ use judgement_matrix::Matrix;
 
 /// States that the lines of a span certificate together say that it is one. It does nothing.
 pub fn span_lines(problem: &Problem, value: &Frac, cert: &Cert)
-    ensures { AllSay (span_check problem.now value.now cert.now) ↔ IsSpanCertificate problem.now cert.now value.now }
+    ensures { AllSay (span_check problem.now value.now cert.now)
+        ↔ IsSpanCertificate problem.now cert.now value.now }
 {
     // What the types of the problem and the value keep is told where they are read.
     let _ = (problem.vars(), value.den());
@@ -25,7 +26,8 @@ pub fn span_lines(problem: &Problem, value: &Frac, cert: &Cert)
 
 /// States that the lines of a Farkas certificate together say that it is one. It does nothing.
 pub fn farkas_lines(problem: &Problem, cert: &Cert)
-    ensures { AllSay (farkas_check problem.now cert.now) ↔ IsFarkasCertificate problem.now cert.now }
+    ensures { AllSay (farkas_check problem.now cert.now)
+        ↔ IsFarkasCertificate problem.now cert.now }
 {
     // What the type of the problem keeps is told where it is read.
     problem.vars();
@@ -69,14 +71,17 @@ pub fn one_text(bytes: &[u8], first: &CertText, second: &CertText)
 pub fn refuted_by_a_named_row(matrix: &Matrix, cert: &Cert)
     requires size { 2 ≤ matrix.now.size }
     requires refutes { IsFarkasCertificate (problem_of matrix.now) cert.now }
-    ensures { (w : Items ℤ) (n : ℤ) → IsScale matrix.now w n → NeverRises matrix.now w → FailsNamedRow matrix.now cert.now w n }
+    ensures { (w : Items ℤ) (n : ℤ) → IsScale matrix.now w n → NeverRises matrix.now w
+        → FailsNamedRow matrix.now cert.now w n }
 {}
 
 /// States that a span certificate of the problem of a matrix bounds the span, the first value, of each scale that meets the
 /// matrix, and that with a Farkas certificate no scale meets it. It does nothing.
 pub fn certificates_speak_of_scales(matrix: &Matrix, cert: &Cert)
     requires { 2 ≤ matrix.now.size }
-    ensures span { (value : Fraction) (w : Items ℤ) (n : ℤ) → IsSpanCertificate (problem_of matrix.now) cert.now value
+    ensures span { (value : Fraction) (w : Items ℤ) (n : ℤ)
+        → IsSpanCertificate (problem_of matrix.now) cert.now value
         → IsMetBy matrix.now w n → FractionAtMost value (record { num = value_at w 1; den = n }) }
-    ensures none { IsFarkasCertificate (problem_of matrix.now) cert.now → IsInconsistent matrix.now }
+    ensures none { IsFarkasCertificate (problem_of matrix.now) cert.now
+        → IsInconsistent matrix.now }
 {}

@@ -24,6 +24,8 @@ pub use verdict::{Place, Verdict};
 #[cfg(test)]
 mod check_tests;
 #[cfg(test)]
+mod placing_tests;
+#[cfg(test)]
 mod text_tests;
 #[cfg(test)]
 mod translate_tests;

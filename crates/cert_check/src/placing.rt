@@ -1,8 +1,7 @@
 //! Certificates by tags and by positions of rows.
 
-ghost use Rattle.std.specs.Prelude.{◌≡◌, ◌↔◌, ◌≤◌, ◌<◌, IsTrue, All, ℕ, ℤ, length, IfOk, SomeIff, MatchOption, Contains, slice_get, Some};
-ghost use Rattle.lp_macbeth.specs.Rows.{judged_rows};
-ghost use Rattle.cert_check.specs.Rows.{IsNamed, IsPlaced, AreNamed};
+ghost use Rattle.std.specs.Prelude.{◌≡◌, ◌↔◌, ◌≤◌, ◌<◌, IsTrue, length, IfOk, MatchOption, Contains, slice_get, Some};
+ghost use Rattle.cert_check.specs.Rows.{IsNamed, IsPlaced, AreRows, HasRows};
 
 use crate::text::{CertText, Claim};
 use frac128::problem::Cert;
@@ -20,10 +19,12 @@ pub enum Placed {
     NoRow(usize),
 }
 
-/// The certificate by the positions of its rows in `lp_macbeth::problem(matrix)`, or the first entry whose tag is no row of it.
+/// The certificate by the positions of its rows in `lp_macbeth::problem(matrix)`, or the first entry whose tag is no row of
+/// it. `name_rows` takes what is placed.
 pub fn place(alloc: Global, matrix: &Matrix, text: &CertText) -> Result<Placed, NoMemory>
     requires { 2 ≤ matrix.now.size }
-    ensures { IfOk result (IsPlaced matrix.now text.now) }
+    ensures placed { IfOk result (IsPlaced matrix.now text.now) }
+    ensures rows { IfOk result (HasRows matrix.now) }
 {
     let tags = judged_tags(alloc, matrix)?;
     let entries = text.on.as_slice();
@@ -48,7 +49,7 @@ pub fn name_rows(
     cert: &Cert,
 ) -> Result<CertText, NoMemory>
     requires size { 2 ≤ matrix.now.size }
-    requires rows { All (λ (e : ℕ × ℤ). e.0 < length (judged_rows matrix.now)) cert.now.on }
+    requires rows { AreRows matrix.now cert.now.on }
     ensures named { IfOk result (λ text. IsNamed matrix.now text cert.now) }
     ensures claim { IfOk result (λ text. text.claim ≡ claim) }
 {
@@ -85,7 +86,8 @@ fn placed_entry(tags: &[Tag], entry: &(Tag, i128)) -> Option<(usize, i128)>
 
 // Where the tag stands first.
 fn position_of(tags: &[Tag], tag: Tag) -> Option<usize>
-    ensures { MatchOption result (¬ Contains tags.now tag) (λ place. slice_get tags.now place ≡ Some tag) }
+    ensures { MatchOption result (¬ Contains tags.now tag)
+        (λ place. slice_get tags.now place ≡ Some tag) }
 {
     for i in 0..tags.len() {
         if is_same_tag(tags[i], tag) {

@@ -44,7 +44,8 @@ fn readable_text(alloc: Global, cert: &CertText) -> Result<String, NoMemory>
 
 // Adds the first line.
 fn push_head(alloc: Global, out: &mut String, cert: &CertText) -> Result<(), NoMemory>
-    ensures { OnOk result (string_bytes out.new ≡ string_bytes out.old ++ line_of (head_words (head_of cert.now))) }
+    ensures { OnOk result
+        (string_bytes out.new ≡ string_bytes out.old ++ line_of (head_words (head_of cert.now))) }
 {
     let count = number_text(alloc, cert.on.as_slice())?;
     push_claim(alloc, out, cert)?;
@@ -54,7 +55,8 @@ fn push_head(alloc: Global, out: &mut String, cert: &CertText) -> Result<(), NoM
 
 // Adds what the certificate shows, and the denominator of a least cost.
 fn push_claim(alloc: Global, out: &mut String, cert: &CertText) -> Result<(), NoMemory>
-    ensures { OnOk result (string_bytes out.new ≡ string_bytes out.old ++ spaced (claim_words cert.now.claim cert.now.den)) }
+    ensures { OnOk result
+        (string_bytes out.new ≡ string_bytes out.old ++ spaced (claim_words cert.now.claim cert.now.den)) }
 {
     match &cert.claim {
         Claim::Least(value) => {
@@ -81,7 +83,8 @@ fn push_entries(alloc: Global, out: &mut String, on: &[(Tag, i128)]) -> Result<(
 
 // Adds the line of an entry.
 fn push_entry(alloc: Global, out: &mut String, entry: &(Tag, i128)) -> Result<(), NoMemory>
-    ensures { OnOk result (string_bytes out.new ≡ string_bytes out.old ++ line_of (entry_words entry.now)) }
+    ensures { OnOk result
+        (string_bytes out.new ≡ string_bytes out.old ++ line_of (entry_words entry.now)) }
 {
     let digits = entry.1.to_string(alloc)?;
     push_tag(alloc, out, entry.0)?;
@@ -112,7 +115,8 @@ fn push_tag(alloc: Global, out: &mut String, tag: Tag) -> Result<(), NoMemory>
 
 // Adds the positions of a pair, each with a space.
 fn push_pair(alloc: Global, out: &mut String, p: u8, q: u8) -> Result<(), NoMemory>
-    ensures { OnOk result (string_bytes out.new ≡ string_bytes out.old ++ spaced (decimal p ∷ decimal q ∷ [])) }
+    ensures { OnOk result
+        (string_bytes out.new ≡ string_bytes out.old ++ spaced (decimal p ∷ decimal q ∷ [])) }
 {
     let upper = p.to_string(alloc)?;
     let lower = q.to_string(alloc)?;

@@ -17,7 +17,8 @@ use std::alloc::Global;
 /// The certificate whose text the bytes are, else the first line that doesn't fit, is missing or is one too many.
 /// What it reads prints back as the same bytes.
 pub fn read_cert(alloc: Global, bytes: &[u8]) -> Result<CertText, CertFault>
-    ensures text { MatchResult result (λ cert. IsTextOf bytes.now cert) (λ fault. IsFault bytes.now fault) }
+    ensures text { MatchResult result (λ cert. IsTextOf bytes.now cert)
+        (λ fault. IsFault bytes.now fault) }
     ensures printable { IfOk result IsPrintable }
 {
     cert_in(alloc, bytes)
@@ -25,7 +26,8 @@ pub fn read_cert(alloc: Global, bytes: &[u8]) -> Result<CertText, CertFault>
 
 // The same without what printing needs.
 fn cert_in(alloc: Global, bytes: &[u8]) -> Result<CertText, CertFault>
-    ensures { MatchResult result (λ cert. IsTextOf bytes.now cert) (λ fault. IsFault bytes.now fault) }
+    ensures { MatchResult result (λ cert. IsTextOf bytes.now cert)
+        (λ fault. IsFault bytes.now fault) }
 {
     let Some((line, rest)) = cut(bytes, b'\n') else {
         return Err(CertFault::Bad(1));

@@ -11,7 +11,8 @@ use frac128::{Number, TooWide};
 
 // The sum with a product.
 fn plus_product(sum: Number, multiplier: Number, number: Number) -> Result<Number, TooWide>
-    ensures { OkIff result (IsInRange (multiplier *ℤ number) × IsInRange (sum +ℤ multiplier *ℤ number))
+    ensures { OkIff result (IsInRange (multiplier *ℤ number)
+        × IsInRange (sum +ℤ multiplier *ℤ number))
         (sum +ℤ multiplier *ℤ number) }
 {
     sum.plus(multiplier.times(number)?)
@@ -51,7 +52,8 @@ pub(crate) fn column_sum(
 ) -> Result<Number, TooWide>
     requires entries { AreRowMultipliers (length problem.now.rows) on.now }
     requires column { j < problem.now.vars }
-    ensures { OkIff result (All IsInRange (added_in_turn (pos 0) (products_on (coefficient j) problem.now.rows on.now)))
+    ensures { OkIff result (All IsInRange (added_in_turn (pos 0)
+        (products_on (coefficient j) problem.now.rows on.now)))
         (int_sum (products_on (coefficient j) problem.now.rows on.now)) }
 {
     let mut sum = Number::ZERO;
@@ -65,7 +67,8 @@ pub(crate) fn column_sum(
 /// The sum over the entries of multiplier times bound.
 pub(crate) fn bound_sum(problem: &Problem, on: &[(usize, i128)]) -> Result<Number, TooWide>
     requires entries { AreRowMultipliers (length problem.now.rows) on.now }
-    ensures { OkIff result (All IsInRange (added_in_turn (pos 0) (products_on bound problem.now.rows on.now)))
+    ensures { OkIff result (All IsInRange (added_in_turn (pos 0)
+        (products_on bound problem.now.rows on.now)))
         (int_sum (products_on bound problem.now.rows on.now)) }
 {
     let mut sum = Number::ZERO;

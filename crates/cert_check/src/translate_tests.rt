@@ -64,7 +64,7 @@ fn judge(matrix: &mut Matrix, p: usize, q: usize, category: u8) -> Result<(), Fa
 }
 
 // Three elements, with the categories of the first over the second, the first over the third and the second over the third.
-fn three(alloc: Global, categories: [u8; 3]) -> Result<Matrix, Fail>
+pub(crate) fn three(alloc: Global, categories: [u8; 3]) -> Result<Matrix, Fail>
     ensures { IfOk result (λ matrix. matrix.size ≡ 3) }
 {
     let mut matrix = Matrix::new(alloc, 3)?;

@@ -21,7 +21,8 @@ pub(crate) fn cut(text: &[u8], mark: u8) -> Option<(&[u8], &[u8])>
 
 /// The first word of a line with more than one, and what follows it.
 pub(crate) fn first_word(line: &[u8]) -> Option<(&[u8], &[u8])>
-    ensures { MatchOption result (words line.now ≡ line.now ∷ []) (λ parts. words line.now ≡ parts.0.now ∷ words parts.1.now) }
+    ensures { MatchOption result (words line.now ≡ line.now ∷ [])
+        (λ parts. words line.now ≡ parts.0.now ∷ words parts.1.now) }
 {
     cut(line, b' ')
 }

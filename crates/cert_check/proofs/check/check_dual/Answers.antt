@@ -8,8 +8,10 @@ use Rattle.cert_check.proofs.check.check_dual.Goals as goal
 
 pub returns-clause-exact : goal.returns-clause-exact
 returns-clause-exact c =
-    Decides-from_verdict (span_check c.args.problem.now c.args.value.now c.args.cert.now) (IsSpanCertificate c.args.problem.now c.args.cert.now c.args.value.now)
-    (span-lines c.args.problem.now c.args.value.now c.args.cert.now c.span_verdict.ensures.known.0 c.span_verdict.ensures.known.1) c.span_verdict.result c.span_verdict.ensures.verdict
+    Decides-from_verdict (span_check c.args.problem.now c.args.value.now c.args.cert.now)
+    (IsSpanCertificate c.args.problem.now c.args.cert.now c.args.value.now)
+    (span-lines c.args.problem.now c.args.value.now c.args.cert.now c.span_verdict.ensures.known.0 c.span_verdict.ensures.known.1)
+    c.span_verdict.result c.span_verdict.ensures.verdict
 
 pub returns-clause-bounds : goal.returns-clause-bounds
 returns-clause-bounds c = λ holds.

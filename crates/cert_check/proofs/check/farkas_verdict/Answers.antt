@@ -20,9 +20,11 @@ returns-in-Some-2-clause-verdict c =
 
 pub returns-in_err-bound_of_all-clause-verdict : goal.returns-in_err-bound_of_all-clause-verdict
 returns-in_err-bound_of_all-clause-verdict c =
-    IsVerdict-refused (farkas_check c.args.problem.now c.args.cert.now) c.from_residual-in_err-bound_of_all.result c.from_residual-in_err-bound_of_all.ensures.0 Bound
+    IsVerdict-refused (farkas_check c.args.problem.now c.args.cert.now)
+    c.from_residual-in_err-bound_of_all.result c.from_residual-in_err-bound_of_all.ensures.0 Bound
     (farkas-wide_bound c.args.problem.now c.args.cert.now c.in_default.ensures.first
-    (subst (λ found. IsColumnAnswer c.args.problem.now (pos 0) c.args.cert.now.on (Ok found)) c.in_default-2.is c.in_ok-j.ensures) c.in_err-bound_of_all.ensures)
+    (subst (λ found. IsColumnAnswer c.args.problem.now (pos 0) c.args.cert.now.on (Ok found)) c.in_default-2.is c.in_ok-j.ensures)
+    c.in_err-bound_of_all.ensures)
 
 pub returns-then-is_positive-clause-verdict : goal.returns-then-is_positive-clause-verdict
 returns-then-is_positive-clause-verdict c =
@@ -34,4 +36,5 @@ pub returns-else-is_positive-clause-verdict : goal.returns-else-is_positive-clau
 returns-else-is_positive-clause-verdict c =
     farkas-bound c.args.problem.now c.args.cert.now c.in_ok-bound_of_all.field-0 c.in_default.ensures.first
     (subst (λ found. IsColumnAnswer c.args.problem.now (pos 0) c.args.cert.now.on (Ok found)) c.in_default-2.is c.in_ok-j.ensures)
-    c.in_ok-bound_of_all.ensures.0 c.in_ok-bound_of_all.ensures.1 (λ positive. let yes = c.is_positive.ensures.1 positive in let no = c.if-is_positive.false in cc)
+    c.in_ok-bound_of_all.ensures.0 c.in_ok-bound_of_all.ensures.1 (λ positive. let yes = c.is_positive.ensures.1 positive in let no = c.if-is_positive.false in
+    cc)

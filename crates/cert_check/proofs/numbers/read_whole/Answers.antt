@@ -7,7 +7,8 @@ use Rattle.cert_check.proofs.numbers.read_whole.Goals as goal
 
 pub returns-in_default : goal.returns-in_default
 returns-in_default c = λ z h.
-    Found-none (IsPrintedValue c.args.word.now) c.in_ok-value.field-0 c.in_ok-value.ensures c.in_default.is (whole z) (IsValue-whole z h.0, h.1 ∙ sym (whole_text z))
+    Found-none (IsPrintedValue c.args.word.now) c.in_ok-value.field-0 c.in_ok-value.ensures c.in_default.is (whole z)
+    (IsValue-whole z h.0, h.1 ∙ sym (whole_text z))
 
 pub returns-else-den-eq1 : goal.returns-else-den-eq1
 returns-else-den-eq1 c = λ z h.

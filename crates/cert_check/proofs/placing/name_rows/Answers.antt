@@ -12,8 +12,10 @@ pub loop-i-preserved : goal.loop-i-preserved
 loop-i-preserved c =
     let entry : ℕ × ℤ = get_or c.args.cert.now.on c.loop-i.i (0, pos 0) in
     let inside : c.loop-i.i < length c.args.cert.now.on = omega (arith, ap length c.as_slice-entries.ensures) in
-    let named = subst (λ (on : List (ℕ × ℤ)). slice_get c.as_slice.result.now (get_or on c.loop-i.i (0, pos 0)).0 ≡ Some c.named_entry.result.0) c.as_slice-entries.ensures c.named_entry.ensures.tag in
-    let multiplier = subst (λ (on : List (ℕ × ℤ)). c.named_entry.result.1 ≡ (get_or on c.loop-i.i (0, pos 0)).1) c.as_slice-entries.ensures c.named_entry.ensures.multiplier in
+    let named = subst (λ (on : List (ℕ × ℤ)). slice_get c.as_slice.result.now (get_or on c.loop-i.i (0, pos 0)).0 ≡ Some c.named_entry.result.0)
+    c.as_slice-entries.ensures c.named_entry.ensures.tag in
+    let multiplier = subst (λ (on : List (ℕ × ℤ)). c.named_entry.result.1 ≡ (get_or on c.loop-i.i (0, pos 0)).1)
+    c.as_slice-entries.ensures c.named_entry.ensures.multiplier in
     let items : c.push.new.self.items ≡ c.loop-i.on.items ++ c.named_entry.result ∷ [] = search rules in
     let tag = subst (λ tags. slice_get tags entry.0 ≡ Some c.named_entry.result.0) (c.as_slice.ensures.value ∙ c.in_ok-tags.ensures.tags) named in
     subst (λ on. AreNamed c.args.matrix.now on (take (c.loop-i.i + 1) c.args.cert.now.on)) (sym items)

@@ -8,7 +8,8 @@ use Rattle.cert_check.proofs.printing.push_head.Goals as goal
 
 pub returns : goal.returns
 returns c =
-    let digits : c.as_str.result.now ≡ decimal (length c.args.cert.now.on) = c.as_str.ensures.value ∙ c.in_ok-count.ensures ∙ ap (λ on. decimal (length on)) c.as_slice.ensures in
+    let digits : c.as_str.result.now ≡ decimal (length c.args.cert.now.on) =
+    c.as_str.ensures.value ∙ c.in_ok-count.ensures ∙ ap (λ on. decimal (length on)) c.as_slice.ensures in
     subst (λ l. OnOk c.push_last.result (string_bytes c.push_last.new.out ≡ l))
     (ap₂ (λ a w. a ++ (w ++ 10 ∷ [])) (c.in_ok-push_word.ensures ∙ ap (λ a. a ++ (ROWS.now ++ 32 ∷ [])) c.in_ok-push_claim.ensures) digits
     ∙ line-two_last (string_bytes c.args.out.now) (claim_words c.args.cert.now.claim c.args.cert.now.den) ROWS.now (decimal (length c.args.cert.now.on)))

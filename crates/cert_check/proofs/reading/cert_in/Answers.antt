@@ -18,4 +18,5 @@ returns-in-Ok c =
 pub returns-in-Err : goal.returns-in-Err
 returns-in-Err c =
     IsFault-from_entries c.args.bytes.now c.in-Some.line.now c.in-Some.rest.now c.in-Some-2.head c.in-Some.ensures.0
-    (Found-some (IsPrintedHead (words c.in-Some.line.now)) c.in_ok-head.field-0 c.in-Some-2.head c.in_ok-head.ensures c.in-Some-2.is) c.in-Err.fault c.in-Err.ensures
+    (Found-some (IsPrintedHead (words c.in-Some.line.now)) c.in_ok-head.field-0 c.in-Some-2.head c.in_ok-head.ensures c.in-Some-2.is)
+    c.in-Err.fault c.in-Err.ensures

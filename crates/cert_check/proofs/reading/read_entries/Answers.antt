@@ -19,5 +19,6 @@ pub loop-alloc-preserved : goal.loop-alloc-preserved
 loop-alloc-preserved c =
     let items : c.push.new.self.items ≡ c.loop-alloc.on.items ++ c.in-Some-2.entry ∷ [] = search rules in
     subst (λ on. HasEntries c.args.text.now c.args.count on c.in-Some.after.now) (sym items)
-    (HasEntries-next c.args.text.now c.args.count c.loop-alloc.on.items c.loop-alloc.rest.now c.in-Some.line.now c.in-Some.after.now c.in-Some-2.entry c.loop-alloc.invariant (omega arith) c.in-Some.ensures.0
+    (HasEntries-next c.args.text.now c.args.count c.loop-alloc.on.items c.loop-alloc.rest.now c.in-Some.line.now
+    c.in-Some.after.now c.in-Some-2.entry c.loop-alloc.invariant (omega arith) c.in-Some.ensures.0
     (Found-some (IsPrintedEntry (words c.in-Some.line.now)) c.in_ok-entry.field-0 c.in-Some-2.entry c.in_ok-entry.ensures c.in-Some-2.is))
