@@ -40,7 +40,7 @@ use Rattle.lp_macbeth.proofs.ThresholdLemmas.{IsRange-range_at}
 use Rattle.lp_macbeth.proofs.TagLemmas.{All-judged_rows}
 use Rattle.lp_macbeth.proofs.PassLemmas.{from, from_falls, AreCovered}
 use Rattle.lp_macbeth.proofs.WeightLemmas.{whole, numbers, AreOf, AreNone, spread-none}
-use Rattle.lp_macbeth.proofs.TagSums.{entries-dot, ats_of, equals_of, belows_of}
+use Rattle.lp_macbeth.proofs.RowSumLemmas.{entries-dot, ats_of, equals_of, belows_of}
 use Rattle.lp_macbeth.proofs.OwnRows.{parts_are_of, length-own_weights, own_number, threshold_number, threshold_number-dot, carried-dot, IsProblem-own}
 
 -- ---- numbers of rows by their tags

@@ -20,7 +20,8 @@ use Rattle.lp_macbeth.proofs.RangeLemmas.{small_in_range, gap_coefs_in_range, op
 use Rattle.lp_macbeth.proofs.ScaleLemmas.{gap_coefs_nonneg}
 
 -- numbers for the gaps, one for the room, and a bound
-with_room : (n : ℕ) (xs : List ℤ) (c bound : ℤ) → 2 ≤ n → length xs ≡ n - 1 → All IsInRange xs → IsInRange c → IsInRange bound → IsRow n (record { coefs = xs ++ c ∷ []; bound = bound })
+with_room : (n : ℕ) (xs : List ℤ) (c bound : ℤ) → 2 ≤ n → length xs ≡ n - 1 → All IsInRange xs → IsInRange c → IsInRange bound
+    → IsRow n (record { coefs = xs ++ c ∷ []; bound = bound })
 with_room n xs c bound two each all room b = record {
   one_each = length-append xs (c ∷ []) ∙ omega (arith, each);
   coefs_in_range = All-append IsInRange xs (c ∷ []) all (All-cons IsInRange c [] room (All-nil IsInRange));
@@ -39,10 +40,14 @@ length-row_of m (Order p) h = length-gap_coefs m.size p (p + 1) (h.0, omega arit
 
 -- a tag's constraint in unit 0
 pub IsRow-closed : (m : Judgements) (tag : Tag) → IsTagAmong m.size tag → IsRow m.size (closed_row_of m tag)
-IsRow-closed m (Lower p q) h = with_room m.size (gap_coefs m.size p q) (pos 0) (pos 0) (omega arith) (length-gap_coefs m.size p q h) (gap_coefs_in_range m.size p q) zero_in_range zero_in_range
-IsRow-closed m (Zero p q) h = with_room m.size (opposite (gap_coefs m.size p q)) (pos 0) (pos 0) (omega arith) (length-opposite (gap_coefs m.size p q) ∙ length-gap_coefs m.size p q h) (opposite_in_range m.size p q) zero_in_range zero_in_range
-IsRow-closed m (Cross p q x y) h = with_room m.size _ (pos 0) (pos 0) (let l = h.0 in omega arith) (length-cross_coefs m.size p q x y h.0 h.1) (cross_coefs_in_range m.size p q x y h.0 h.1) zero_in_range zero_in_range
-IsRow-closed m (Order p) h = with_room m.size (gap_coefs m.size p (p + 1)) (pos 0) (pos 0) (omega arith) (length-gap_coefs m.size p (p + 1) (h.0, omega arith, omega arith)) (gap_coefs_in_range m.size p (p + 1)) zero_in_range zero_in_range
+IsRow-closed m (Lower p q) h = with_room m.size (gap_coefs m.size p q) (pos 0) (pos 0) (omega arith) (length-gap_coefs m.size p q h)
+    (gap_coefs_in_range m.size p q) zero_in_range zero_in_range
+IsRow-closed m (Zero p q) h = with_room m.size (opposite (gap_coefs m.size p q)) (pos 0) (pos 0) (omega arith)
+    (length-opposite (gap_coefs m.size p q) ∙ length-gap_coefs m.size p q h) (opposite_in_range m.size p q) zero_in_range zero_in_range
+IsRow-closed m (Cross p q x y) h = with_room m.size _ (pos 0) (pos 0) (let l = h.0 in omega arith) (length-cross_coefs m.size p q x y h.0 h.1)
+    (cross_coefs_in_range m.size p q x y h.0 h.1) zero_in_range zero_in_range
+IsRow-closed m (Order p) h = with_room m.size (gap_coefs m.size p (p + 1)) (pos 0) (pos 0) (omega arith)
+    (length-gap_coefs m.size p (p + 1) (h.0, omega arith, omega arith)) (gap_coefs_in_range m.size p (p + 1)) zero_in_range zero_in_range
 
 -- the opposite of a bound
 opposite_small : (z : ℕ) → z ≤ 1000000 → unsigned_abs (neg_ℤ (pos z)) ≤ 1000000
@@ -51,33 +56,43 @@ opposite_small (suc z) h = omega arith
 
 -- two more rows
 pub IsRow-both : (n : ℕ) (rows : List Row) (one two : Row) → All (IsRow n) rows → IsRow n one → IsRow n two → All (IsRow n) (rows ++ one ∷ two ∷ [])
-IsRow-both n rows one two all a b = All-append (IsRow n) rows (one ∷ two ∷ []) all (All-cons (IsRow n) one (two ∷ []) a (All-cons (IsRow n) two [] b (All-nil (IsRow n))))
+IsRow-both n rows one two all a b = All-append (IsRow n) rows (one ∷ two ∷ []) all
+    (All-cons (IsRow n) one (two ∷ []) a (All-cons (IsRow n) two [] b (All-nil (IsRow n))))
 
-pub anchors_fit : (n good neutral : ℕ) (rows : List Row) → IsPair n good neutral → All (IsRow n) rows → All (IsRow n) (rows ++ anchor_up n good neutral ∷ anchor_down n good neutral ∷ [])
+pub anchors_fit : (n good neutral : ℕ) (rows : List Row) → IsPair n good neutral → All (IsRow n) rows
+    → All (IsRow n) (rows ++ anchor_up n good neutral ∷ anchor_down n good neutral ∷ [])
 anchors_fit n good neutral rows in_n all =
     IsRow-both n rows (anchor_up n good neutral) (anchor_down n good neutral) all
-    (with_room n (gap_coefs n good neutral) (pos 0) (pos 100) (omega arith) (length-gap_coefs n good neutral in_n) (gap_coefs_in_range n good neutral) zero_in_range (small_in_range (pos 100) (omega arith)))
-    (with_room n (opposite (gap_coefs n good neutral)) (pos 0) (neg_ℤ (pos 100)) (omega arith) (length-opposite (gap_coefs n good neutral) ∙ length-gap_coefs n good neutral in_n) (opposite_in_range n good neutral) zero_in_range (small_in_range (neg_ℤ (pos 100)) (opposite_small 100 (omega arith))))
+    (with_room n (gap_coefs n good neutral) (pos 0) (pos 100) (omega arith) (length-gap_coefs n good neutral in_n) (gap_coefs_in_range n good neutral)
+        zero_in_range (small_in_range (pos 100) (omega arith)))
+    (with_room n (opposite (gap_coefs n good neutral)) (pos 0) (neg_ℤ (pos 100)) (omega arith)
+        (length-opposite (gap_coefs n good neutral) ∙ length-gap_coefs n good neutral in_n) (opposite_in_range n good neutral) zero_in_range
+        (small_in_range (neg_ℤ (pos 100)) (opposite_small 100 (omega arith))))
 
-pub reaches_fit : (n reach : ℕ) (rows : List Row) → 2 ≤ n → reach ≤ 1000000 → All (IsRow n) rows → All (IsRow n) (rows ++ reach_up n reach ∷ reach_down n reach ∷ [])
+pub reaches_fit : (n reach : ℕ) (rows : List Row) → 2 ≤ n → reach ≤ 1000000 → All (IsRow n) rows
+    → All (IsRow n) (rows ++ reach_up n reach ∷ reach_down n reach ∷ [])
 reaches_fit n reach rows two most all =
     let in_n : IsPair n 1 n = (omega arith, omega arith, omega arith) in
     IsRow-both n rows (reach_up n reach) (reach_down n reach) all
-    (with_room n (gap_coefs n 1 n) (pos 1) (pos reach) two (length-gap_coefs n 1 n in_n) (gap_coefs_in_range n 1 n) (small_in_range (pos 1) (omega arith)) (small_in_range (pos reach) (omega arith)))
-    (with_room n (opposite (gap_coefs n 1 n)) (negsuc 0) (neg_ℤ (pos reach)) two (length-opposite (gap_coefs n 1 n) ∙ length-gap_coefs n 1 n in_n) (opposite_in_range n 1 n) (small_in_range (negsuc 0) (omega arith)) (small_in_range (neg_ℤ (pos reach)) (opposite_small reach most)))
+    (with_room n (gap_coefs n 1 n) (pos 1) (pos reach) two (length-gap_coefs n 1 n in_n) (gap_coefs_in_range n 1 n) (small_in_range (pos 1) (omega arith))
+        (small_in_range (pos reach) (omega arith)))
+    (with_room n (opposite (gap_coefs n 1 n)) (negsuc 0) (neg_ℤ (pos reach)) two (length-opposite (gap_coefs n 1 n) ∙ length-gap_coefs n 1 n in_n)
+        (opposite_in_range n 1 n) (small_in_range (negsuc 0) (omega arith)) (small_in_range (neg_ℤ (pos reach)) (opposite_small reach most)))
 
 -- ---- the cost
 
 -- copies of two numbers between each other keep what both have
 copies_keep : (P : ℤ → Type 0) (a b c : ℕ) (x y : ℤ) → P x → P y → All P (replicate a x ++ replicate b y ++ replicate c x)
 copies_keep P a b c x y p q =
-    All-append P (replicate a x ++ replicate b y) (replicate c x) (All-append P (replicate a x) (replicate b y) (All-replicate P a x p) (All-replicate P b y q)) (All-replicate P c x p)
+    All-append P (replicate a x ++ replicate b y) (replicate c x) (All-append P (replicate a x) (replicate b y) (All-replicate P a x p) (All-replicate P b y q))
+        (All-replicate P c x p)
 
 -- one number for each gap
 pub length-outer_coefs : (n p q : ℕ) → IsPair n p q → length (outer_coefs n p q) ≡ n - 1
 length-outer_coefs n p q in_n =
     length-append (replicate (n - q) (pos 1) ++ replicate (q - p) (pos 0)) (replicate (p - 1) (pos 1))
-    ∙ omega (arith, length-append (replicate (n - q) (pos 1)) (replicate (q - p) (pos 0)), length-replicate (n - q) (pos 1), length-replicate (q - p) (pos 0), length-replicate (p - 1) (pos 1))
+    ∙ omega (arith, length-append (replicate (n - q) (pos 1)) (replicate (q - p) (pos 0)), length-replicate (n - q) (pos 1), length-replicate (q - p)
+        (pos 0), length-replicate (p - 1) (pos 1))
 
 -- a cost for each variable, none below 0
 pub record IsCost (n : ℕ) (cost : List ℤ) : Type 0 where
@@ -85,7 +100,8 @@ pub record IsCost (n : ℕ) (cost : List ℤ) : Type 0 where
   pub nonneg : AreNonNegative cost
   pub in_range : All IsInRange cost
 
-costs_with_room : (n : ℕ) (xs : List ℤ) (c : ℤ) → 2 ≤ n → length xs ≡ n - 1 → AreNonNegative xs → All IsInRange xs → pos 0 ≤ℤ c → IsInRange c → IsCost n (xs ++ c ∷ [])
+costs_with_room : (n : ℕ) (xs : List ℤ) (c : ℤ) → 2 ≤ n → length xs ≡ n - 1 → AreNonNegative xs → All IsInRange xs → pos 0 ≤ℤ c → IsInRange c
+    → IsCost n (xs ++ c ∷ [])
 costs_with_room n xs c two each nonneg all low room = record {
   one_each = length-append xs (c ∷ []) ∙ omega (arith, each);
   nonneg = All-append (λ z. pos 0 ≤ℤ z) xs (c ∷ []) nonneg (All-cons (λ z. pos 0 ≤ℤ z) c [] low (All-nil (λ z. pos 0 ≤ℤ z)));
@@ -98,11 +114,13 @@ IsCost-closed n a b apart ha hb = by_order (cases_lt a b)
     by_order : (a < b) ⊎ (b ≤ a) → IsCost n (closed_cost n a b)
     by_order (inl l) =
         let in_n : IsPair n a b = (ha.0, l, hb.1) in
-        rw (lt-ltb a b l) (costs_with_room n (gap_coefs n a b) (pos 0) (omega arith) (length-gap_coefs n a b in_n) (gap_coefs_nonneg n a b) (gap_coefs_in_range n a b) (omega (arith, lin)) zero_in_range)
+        rw (lt-ltb a b l) (costs_with_room n (gap_coefs n a b) (pos 0) (omega arith) (length-gap_coefs n a b in_n) (gap_coefs_nonneg n a b)
+            (gap_coefs_in_range n a b) (omega (arith, lin)) zero_in_range)
     by_order (inr g) =
         let in_n : IsPair n b a = (hb.0, omega arith, ha.1) in
         let one : IsInRange (pos 1) = small_in_range (pos 1) (omega arith) in
-        rw (le-ltb a b g) (costs_with_room n (outer_coefs n b a) (pos 1) (omega arith) (length-outer_coefs n b a in_n) (copies_keep (λ z. pos 0 ≤ℤ z) (n - a) (a - b) (b - 1) (pos 1) (pos 0) (omega (arith, lin)) (omega (arith, lin)))
+        rw (le-ltb a b g) (costs_with_room n (outer_coefs n b a) (pos 1) (omega arith) (length-outer_coefs n b a in_n)
+            (copies_keep (λ z. pos 0 ≤ℤ z) (n - a) (a - b) (b - 1) (pos 1) (pos 0) (omega (arith, lin)) (omega (arith, lin)))
         (copies_keep IsInRange (n - a) (a - b) (b - 1) (pos 1) (pos 0) one zero_in_range) (omega (arith, lin)) one)
 
 -- the cost of a listed above b, and of b listed above a

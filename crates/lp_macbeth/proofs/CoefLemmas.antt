@@ -20,7 +20,8 @@ use Rattle.lp_macbeth.specs.Rows.{cross_coefs}
 pub length-gap_coefs : (n p q : ℕ) → IsPair n p q → length (gap_coefs n p q) ≡ n - 1
 length-gap_coefs n p q in_n =
     length-append (replicate (n - q) (pos 0) ++ replicate (q - p) (pos 1)) (replicate (p - 1) (pos 0))
-    ∙ omega (arith, length-append (replicate (n - q) (pos 0)) (replicate (q - p) (pos 1)), length-replicate (n - q) (pos 0), length-replicate (q - p) (pos 1), length-replicate (p - 1) (pos 0))
+    ∙ omega (arith, length-append (replicate (n - q) (pos 0)) (replicate (q - p) (pos 1)), length-replicate (n - q) (pos 0), length-replicate (q - p)
+        (pos 1), length-replicate (p - 1) (pos 0))
 
 pub length-opposite : (xs : List ℤ) → length (opposite xs) ≡ length xs
 length-opposite xs = length-scale (negsuc 0) xs
@@ -41,14 +42,17 @@ scale-replicate c x (suc n) = ap (λ xs. (c *ℤ x) ∷ xs) (scale-replicate c x
 pub opposite-gap_coefs : (n p q : ℕ) → opposite (gap_coefs n p q) ≡ replicate (n - q) (pos 0) ++ replicate (q - p) (negsuc 0) ++ replicate (p - 1) (pos 0)
 opposite-gap_coefs n p q =
     scale-append (negsuc 0) (replicate (n - q) (pos 0) ++ replicate (q - p) (pos 1)) (replicate (p - 1) (pos 0))
-    ∙ ap₂ (λ xs ys. xs ++ ys) (scale-append (negsuc 0) (replicate (n - q) (pos 0)) (replicate (q - p) (pos 1)) ∙ ap₂ (λ xs ys. xs ++ ys) (scale-replicate (negsuc 0) (pos 0) (n - q)) (scale-replicate (negsuc 0) (pos 1) (q - p))) (scale-replicate (negsuc 0) (pos 0) (p - 1))
+    ∙ ap₂ (λ xs ys. xs ++ ys) (scale-append (negsuc 0) (replicate (n - q) (pos 0)) (replicate (q - p) (pos 1))
+        ∙ ap₂ (λ xs ys. xs ++ ys) (scale-replicate (negsuc 0) (pos 0) (n - q)) (scale-replicate (negsuc 0) (pos 1) (q - p)))
+        (scale-replicate (negsuc 0) (pos 0) (p - 1))
 
 -- three pieces added one after the other
 pub pieces : {A : Type 0} (old one two three xs ys zs : List A) → one ≡ old ++ xs → two ≡ one ++ ys → three ≡ two ++ zs → three ≡ old ++ (xs ++ ys ++ zs)
 pieces old one two three xs ys zs a b c = c ∙ ap (λ l. l ++ zs) (b ∙ ap (λ l. l ++ ys) a ∙ append_assoc old xs ys) ∙ append_assoc old (xs ++ ys) zs
 
 -- and those of the opposite
-pub opposite_pieces : (n p q : ℕ) (old one two three : List ℤ) → one ≡ old ++ replicate (n - q) (pos 0) → two ≡ one ++ replicate (q - p) (negsuc 0) → three ≡ two ++ replicate (p - 1) (pos 0) → three ≡ old ++ opposite (gap_coefs n p q)
+pub opposite_pieces : (n p q : ℕ) (old one two three : List ℤ) → one ≡ old ++ replicate (n - q) (pos 0) → two ≡ one ++ replicate (q - p) (negsuc 0)
+    → three ≡ two ++ replicate (p - 1) (pos 0) → three ≡ old ++ opposite (gap_coefs n p q)
 opposite_pieces n p q old one two three a b c =
     pieces old one two three (replicate (n - q) (pos 0)) (replicate (q - p) (negsuc 0)) (replicate (p - 1) (pos 0)) a b c
     ∙ ap (λ l. old ++ l) (sym (opposite-gap_coefs n p q))
@@ -74,10 +78,12 @@ get_or-zeros (suc c) zero = refl
 get_or-zeros (suc c) (suc k) = get_or-zeros c k
 
 -- ones between zeros
-ones_at : (a b c k : ℕ) → get_or (replicate a (pos 0) ++ replicate b (pos 1) ++ replicate c (pos 0)) k (pos 0) ≡ cond (nat_le a k && nat_lt k (a + b)) (pos 1) (pos 0)
+ones_at : (a b c k : ℕ) → get_or (replicate a (pos 0) ++ replicate b (pos 1) ++ replicate c (pos 0)) k (pos 0) ≡ cond (nat_le a k && nat_lt k (a + b)) (pos 1)
+    (pos 0)
 ones_at a b c k = ap (λ l. get_or l k (pos 0)) (append_assoc (replicate a (pos 0)) (replicate b (pos 1)) (replicate c (pos 0))) ∙ by_place (cases_lt k a)
   where
-    past : (j : ℕ) → a + j ≡ k → (j < b) ⊎ (b ≤ j) → get_or (replicate b (pos 1) ++ replicate c (pos 0)) j (pos 0) ≡ cond (nat_le a k && nat_lt k (a + b)) (pos 1) (pos 0)
+    past : (j : ℕ) → a + j ≡ k → (j < b) ⊎ (b ≤ j) → get_or (replicate b (pos 1) ++ replicate c (pos 0)) j (pos 0) ≡ cond (nat_le a k && nat_lt k (a + b))
+        (pos 1) (pos 0)
     past j e (inl l) =
         let low : nat_le a k ≡ true = le-leb a k (omega arith) in
         let high : nat_lt k (a + b) ≡ true = lt-ltb k (a + b) (omega arith) in
@@ -86,9 +92,11 @@ ones_at a b c k = ap (λ l. get_or l k (pos 0)) (append_assoc (replicate a (pos 
         let low : nat_le a k ≡ true = le-leb a k (omega arith) in
         let high : nat_lt k (a + b) ≡ false = le-ltb k (a + b) (omega arith) in
         let split : b + (j - b) ≡ j = omega arith in
-        ap (λ i. get_or (replicate b (pos 1) ++ replicate c (pos 0)) i (pos 0)) (sym split) ∙ get_or-past_front b (pos 1) (replicate c (pos 0)) (j - b) (pos 0) ∙ get_or-zeros c (j - b) ∙ sym (ap₂ (λ s t. cond (s && t) (pos 1) (pos 0)) low high)
+        ap (λ i. get_or (replicate b (pos 1) ++ replicate c (pos 0)) i (pos 0)) (sym split) ∙ get_or-past_front b (pos 1) (replicate c (pos 0)) (j - b) (pos 0)
+            ∙ get_or-zeros c (j - b) ∙ sym (ap₂ (λ s t. cond (s && t) (pos 1) (pos 0)) low high)
 
-    by_place : (k < a) ⊎ (a ≤ k) → get_or (replicate a (pos 0) ++ (replicate b (pos 1) ++ replicate c (pos 0))) k (pos 0) ≡ cond (nat_le a k && nat_lt k (a + b)) (pos 1) (pos 0)
+    by_place : (k < a) ⊎ (a ≤ k) → get_or (replicate a (pos 0) ++ (replicate b (pos 1) ++ replicate c (pos 0))) k (pos 0) ≡ cond
+        (nat_le a k && nat_lt k (a + b)) (pos 1) (pos 0)
     by_place (inl l) =
         let low : nat_le a k ≡ false = grind (arith, common_steps) in
         get_or-in_front a (pos 0) (replicate b (pos 1) ++ replicate c (pos 0)) k (pos 0) l ∙ sym (ap (λ s. cond (s && nat_lt k (a + b)) (pos 1) (pos 0)) low)
@@ -112,7 +120,9 @@ get_or-cross_coefs n p q x y k =
 -- ---- a loop's step
 
 -- the next coefficient is added
-pub cross_next : (n p q x y k : ℕ) (done all now : List ℤ) (coef : ℤ) → IsPair n p q → IsPair n x y → k < n - 1 → coef ≡ get_or (gap_coefs n p q) k (pos 0) -ℤ get_or (gap_coefs n x y) k (pos 0) → done ++ drop k (cross_coefs n p q x y) ≡ all → now ≡ done ++ coef ∷ [] → now ++ drop (k + 1) (cross_coefs n p q x y) ≡ all
+pub cross_next : (n p q x y k : ℕ) (done all now : List ℤ) (coef : ℤ) → IsPair n p q → IsPair n x y → k < n - 1
+    → coef ≡ get_or (gap_coefs n p q) k (pos 0) -ℤ get_or (gap_coefs n x y) k (pos 0) → done ++ drop k (cross_coefs n p q x y) ≡ all → now ≡ done ++ coef ∷ []
+    → now ++ drop (k + 1) (cross_coefs n p q x y) ≡ all
 cross_next n p q x y k done all now coef left right below is invariant added =
     let within : k < length (cross_coefs n p q x y) = omega (arith, length-cross_coefs n p q x y left right) in
     let value : get_or (cross_coefs n p q x y) k (pos 0) ≡ coef = get_or-cross_coefs n p q x y k ∙ sym is in
@@ -127,9 +137,12 @@ cross_done n p q x y k now all left right past invariant =
     sym (append-nil now) ∙ ap (λ l. now ++ l) (sym (drop_all k (cross_coefs n p q x y) ended)) ∙ invariant
 
 -- the coefficient by whether the gap is between the elements of each pair
-pub cross_coef : (n p q x y k : ℕ) (a b : Bool) → IsPair n p q → IsPair n x y → a ≡ (nat_le (n - q) k && nat_lt k (n - p)) → b ≡ (nat_le (n - y) k && nat_lt k (n - x)) → (coef : ℤ) → coef ≡ cond a (pos 1) (pos 0) -ℤ cond b (pos 1) (pos 0) → coef ≡ get_or (gap_coefs n p q) k (pos 0) -ℤ get_or (gap_coefs n x y) k (pos 0)
+pub cross_coef : (n p q x y k : ℕ) (a b : Bool) → IsPair n p q → IsPair n x y → a ≡ (nat_le (n - q) k && nat_lt k (n - p))
+    → b ≡ (nat_le (n - y) k && nat_lt k (n - x)) → (coef : ℤ) → coef ≡ cond a (pos 1) (pos 0) -ℤ cond b (pos 1) (pos 0)
+    → coef ≡ get_or (gap_coefs n p q) k (pos 0) -ℤ get_or (gap_coefs n x y) k (pos 0)
 cross_coef n p q x y k a b left right first second coef is =
-    is ∙ ap₂ (λ u v. u -ℤ v) (ap (λ t. cond t (pos 1) (pos 0)) first ∙ sym (get_or-gap_coefs n p q k left)) (ap (λ t. cond t (pos 1) (pos 0)) second ∙ sym (get_or-gap_coefs n x y k right))
+    is ∙ ap₂ (λ u v. u -ℤ v) (ap (λ t. cond t (pos 1) (pos 0)) first ∙ sym (get_or-gap_coefs n p q k left))
+        (ap (λ t. cond t (pos 1) (pos 0)) second ∙ sym (get_or-gap_coefs n x y k right))
 
 -- a difference of two bits
 pub same_bits : (a b : Bool) → a ≡ b → pos 0 ≡ cond a (pos 1) (pos 0) -ℤ cond b (pos 1) (pos 0)

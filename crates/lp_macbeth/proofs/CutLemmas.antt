@@ -23,7 +23,8 @@ use Rattle.lp_macbeth.proofs.ThresholdLemmas.{cuts, cuts_nonneg, met_from_separa
 -- ---- feasible points
 
 -- gaps and thresholds
-feasible_parts : (m : Judgements) (x t : List ℤ) (n : ℤ) → IsMatrix m → 2 ≤ m.size → length x ≡ m.size - 1 → length t ≡ 5 → IsFeasible (threshold_problem_of m) (x ++ t) n → IsFeasible (problem_of m) x n
+feasible_parts : (m : Judgements) (x t : List ℤ) (n : ℤ) → IsMatrix m → 2 ≤ m.size → length x ≡ m.size - 1 → length t ≡ 5
+    → IsFeasible (threshold_problem_of m) (x ++ t) n → IsFeasible (problem_of m) x n
 feasible_parts m x t n matrix two first five h =
     let each : suc (length x) ≡ m.size = omega (arith, first) in
     let parts = (All-parts (λ c. pos 0 ≤ℤ c) x t).0 h.nonneg in
@@ -32,14 +33,16 @@ feasible_parts m x t n matrix two first five h =
     (feasible_iff_met m x n two).1 (record { scale = IsScale-scale_of m x n each h.den_pos; meets = met })
 
 -- the gaps of a point of the threshold problem
-pub feasible_cut : (m : Judgements) (z : List ℤ) (n : ℤ) → IsMatrix m → 2 ≤ m.size → IsFeasible (threshold_problem_of m) z n → IsFeasible (problem_of m) (take (m.size - 1) z) n
+pub feasible_cut : (m : Judgements) (z : List ℤ) (n : ℤ) → IsMatrix m → 2 ≤ m.size → IsFeasible (threshold_problem_of m) z n
+    → IsFeasible (problem_of m) (take (m.size - 1) z) n
 feasible_cut m z n matrix two h =
     let k : ℕ = m.size - 1 in
     feasible_parts m (take k z) (drop k z) n matrix two (length-take k z ∙ omega (arith, h.one_each)) (length-drop k z ∙ omega (arith, h.one_each))
     (subst (λ y. IsFeasible (threshold_problem_of m) y n) (sym (take-append-drop k z)) h)
 
 -- a point of the problem with thresholds
-pub feasible_extended : (m : Judgements) (x : List ℤ) (n : ℤ) → IsMatrix m → 2 ≤ m.size → IsFeasible (problem_of m) x n → IsFeasible (threshold_problem_of m) (x ++ cuts m (scale_of x) n) n
+pub feasible_extended : (m : Judgements) (x : List ℤ) (n : ℤ) → IsMatrix m → 2 ≤ m.size → IsFeasible (problem_of m) x n
+    → IsFeasible (threshold_problem_of m) (x ++ cuts m (scale_of x) n) n
 feasible_extended m x n matrix two h =
     let t : List ℤ = cuts m (scale_of x) n in
     let each : suc (length x) ≡ m.size = omega (arith, h.one_each) in
@@ -67,15 +70,19 @@ cost_of_parts m x t first =
     ∙ ap (λ c. dot (replicate (m.size - 1) (pos 1)) x +ℤ c) (dot_comm (replicate 5 (pos 0)) t ∙ dot-zeros t 5) ∙ +ℤ_idr (dot (replicate (m.size - 1) (pos 1)) x)
 
 -- a point that comes before another does so with any thresholds
-extended_before : (m : Judgements) (y u x t : List ℤ) (d e : ℤ) → length y ≡ m.size - 1 → length x ≡ m.size - 1 → LexLess (cost_and_numbers (problem_of m) y d) (cost_and_numbers (problem_of m) x e) → LexLess (cost_and_numbers (threshold_problem_of m) (y ++ u) d) (cost_and_numbers (threshold_problem_of m) (x ++ t) e)
+extended_before : (m : Judgements) (y u x t : List ℤ) (d e : ℤ) → length y ≡ m.size - 1 → length x ≡ m.size - 1
+    → LexLess (cost_and_numbers (problem_of m) y d) (cost_and_numbers (problem_of m) x e)
+    → LexLess (cost_and_numbers (threshold_problem_of m) (y ++ u) d) (cost_and_numbers (threshold_problem_of m) (x ++ t) e)
 extended_before m y u x t d e first second h =
     let P = problem_of m in
     let both = before-append (dot P.cost y ∷ y) (dot P.cost x ∷ x) u t d e (ap suc (first ∙ sym second)) h in
     let F : ℤ → ℤ → Type 0 = λ a b. LexLess (over (a ∷ (y ++ u)) d) (over (b ∷ (x ++ t)) e) in
-    subst (λ a. F a (dot (threshold_problem_of m).cost (x ++ t))) (sym (cost_of_parts m y u first)) (subst (F (dot P.cost y)) (sym (cost_of_parts m x t second)) both)
+    subst (λ a. F a (dot (threshold_problem_of m).cost (x ++ t))) (sym (cost_of_parts m y u first))
+        (subst (F (dot P.cost y)) (sym (cost_of_parts m x t second)) both)
 
 -- the gaps of the least point
-pub least_cut : (m : Judgements) (z : List ℤ) (n : ℤ) → IsMatrix m → 2 ≤ m.size → IsLeast (threshold_problem_of m) z n → IsLeast (problem_of m) (take (m.size - 1) z) n
+pub least_cut : (m : Judgements) (z : List ℤ) (n : ℤ) → IsMatrix m → 2 ≤ m.size → IsLeast (threshold_problem_of m) z n
+    → IsLeast (problem_of m) (take (m.size - 1) z) n
 least_cut m z n matrix two h =
     let k : ℕ = m.size - 1 in
     let point = feasible_cut m z n matrix two h.feasible in
@@ -84,10 +91,12 @@ least_cut m z n matrix two h =
       none_before = λ y d other before.
           let longer = extended_before m y (cuts m (scale_of y) d) (take k z) (drop k z) d n other.one_each point.one_each before in
           h.none_before (y ++ cuts m (scale_of y) d) d (feasible_extended m y d matrix two other)
-          (subst (λ v. LexLess (cost_and_numbers (threshold_problem_of m) (y ++ cuts m (scale_of y) d) d) (cost_and_numbers (threshold_problem_of m) v n)) (take-append-drop k z) longer);
+          (subst (λ v. LexLess (cost_and_numbers (threshold_problem_of m) (y ++ cuts m (scale_of y) d) d) (cost_and_numbers (threshold_problem_of m) v n))
+              (take-append-drop k z) longer);
     }
 
-pub least_scale : (m : Judgements) (z : List ℤ) (n : ℤ) → IsMatrix m → 2 ≤ m.size → IsLeast (threshold_problem_of m) z n → IsLeastScale m (scale_of (take (m.size - 1) z)) n
+pub least_scale : (m : Judgements) (z : List ℤ) (n : ℤ) → IsMatrix m → 2 ≤ m.size → IsLeast (threshold_problem_of m) z n
+    → IsLeastScale m (scale_of (take (m.size - 1) z)) n
 least_scale m z n matrix two h = (least_iff_least m (take (m.size - 1) z) n two).0 (least_cut m z n matrix two h)
 
 -- ---- no point

@@ -25,7 +25,8 @@ dot-between (suc a) b c (x ∷ xs) = ap₂ (λ y s. y +ℤ s) (zero-*ℤ x) (dot
 int_sum-take_parts : (a b : ℕ) (xs : List ℤ) → int_sum (take (a + b) xs) ≡ int_sum (take a xs) +ℤ int_sum (take b (drop a xs))
 int_sum-take_parts zero b xs = ap (λ k. int_sum (take k xs)) (zero-add b) ∙ sym (+ℤ_idl (int_sum (take b xs)))
 int_sum-take_parts (suc a) b [] = ap int_sum (take-nil (suc a + b)) ∙ sym (+ℤ_idl (int_sum (take b [])) ∙ ap int_sum (take-nil b))
-int_sum-take_parts (suc a) b (x ∷ xs) = ap (λ k. int_sum (take k (x ∷ xs))) (suc-add a b) ∙ ap (λ s. x +ℤ s) (int_sum-take_parts a b xs) ∙ sym (+ℤ_assoc x (int_sum (take a xs)) (int_sum (take b (drop a xs))))
+int_sum-take_parts (suc a) b (x ∷ xs) = ap (λ k. int_sum (take k (x ∷ xs))) (suc-add a b) ∙ ap (λ s. x +ℤ s) (int_sum-take_parts a b xs)
+    ∙ sym (+ℤ_assoc x (int_sum (take a xs)) (int_sum (take b (drop a xs))))
 
 -- as many heights as elements
 pub length-heights : (a : ℤ) (xs : List ℤ) → length (heights a xs) ≡ suc (length xs)
@@ -53,7 +54,9 @@ dot-gap_coefs n xs p q each in_n =
     let above : value_at (scale_of xs) p ≡ int_sum (take (suc (length xs) - p) xs) = value_at-scale_of xs p in_n.0 (omega arith) in
     let below : value_at (scale_of xs) q ≡ int_sum (take (suc (length xs) - q) xs) = value_at-scale_of xs q (omega arith) (omega arith) in
     let parts : (n - q) + (q - p) ≡ n - p = omega arith in
-    let split : int_sum (take (n - p) xs) ≡ int_sum (take (n - q) xs) +ℤ int_sum (take (q - p) (drop (n - q) xs)) = subst (λ k. int_sum (take k xs) ≡ int_sum (take (n - q) xs) +ℤ int_sum (take (q - p) (drop (n - q) xs))) parts (int_sum-take_parts (n - q) (q - p) xs) in
+    let split : int_sum (take (n - p) xs) ≡ int_sum (take (n - q) xs) +ℤ int_sum (take (q - p) (drop (n - q) xs)) =
+        subst (λ k. int_sum (take k xs) ≡ int_sum (take (n - q) xs) +ℤ int_sum (take (q - p) (drop (n - q) xs))) parts
+        (int_sum-take_parts (n - q) (q - p) xs) in
     let high : value_at (scale_of xs) p ≡ int_sum (take (n - p) xs) = above ∙ ap (λ k. int_sum (take (k - p) xs)) each in
     let low : value_at (scale_of xs) q ≡ int_sum (take (n - q) xs) = below ∙ ap (λ k. int_sum (take (k - q) xs)) each in
     omega (arith, lin, high, low, split, dot-between (n - q) (q - p) (p - 1) xs)

@@ -20,7 +20,7 @@ pub mod WeightingLemmas
 pub mod ThresholdRowLemmas
 pub mod PassLemmas
 pub mod WeightLemmas
-pub mod TagSums
+pub mod RowSumLemmas
 pub mod OwnRows
 pub mod CarryLemmas
 pub mod ThresholdProblemLemmas

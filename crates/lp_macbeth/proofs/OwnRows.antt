@@ -26,7 +26,7 @@ use Rattle.lp_macbeth.proofs.RangeLemmas.{IsRow-difference, IsRow-opposite, IsRo
 use Rattle.lp_macbeth.proofs.TagLemmas.{All-judged_rows}
 use Rattle.lp_macbeth.proofs.ThresholdLemmas.{IsRange-range_at}
 use Rattle.lp_macbeth.proofs.WeightLemmas.{whole, numbers, AreOf, AreNone, spread-of, spread-none, at_zero-dot, of-less, length-lost, kept, none-dot}
-use Rattle.lp_macbeth.proofs.TagSums.{ats_of, equals_of, belows_of, steps_of, threshold-dot}
+use Rattle.lp_macbeth.proofs.RowSumLemmas.{ats_of, equals_of, belows_of, steps_of, threshold-dot}
 
 -- ---- as many weights as rows
 

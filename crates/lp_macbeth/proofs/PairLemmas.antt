@@ -35,7 +35,9 @@ range_with_len-next a n h =
 -- ---- a loop's step
 
 -- the next piece of a list made piece by piece from the items that are left
-pub pieces_next : {X Y : Type 0} (f : List X → List Y) → ((xs ys : List X) → f (xs ++ ys) ≡ f xs ++ f ys) → (xs : List X) (i : ℕ) (x : X) (done all now : List Y) → i < length xs → x ≡ get_or xs i x → done ++ f (drop i xs) ≡ all → now ≡ done ++ f (x ∷ []) → now ++ f (drop (i + 1) xs) ≡ all
+pub pieces_next : {X Y : Type 0} (f : List X → List Y) → ((xs ys : List X) → f (xs ++ ys) ≡ f xs ++ f ys)
+    → (xs : List X) (i : ℕ) (x : X) (done all now : List Y) → i < length xs → x ≡ get_or xs i x → done ++ f (drop i xs) ≡ all → now ≡ done ++ f (x ∷ [])
+    → now ++ f (drop (i + 1) xs) ≡ all
 pieces_next f joins xs i x done all now below is invariant added =
     let more : suc i ≡ i + 1 = omega arith in
     let next : drop i xs ≡ (x ∷ []) ++ drop (i + 1) xs = drop-cons xs i x below ∙ ap₂ (λ y k. y ∷ drop k xs) (sym is) more in

@@ -27,7 +27,8 @@ pub gap_coefs_in_range : (n p q : ℕ) → All IsInRange (gap_coefs n p q)
 gap_coefs_in_range n p q = copies_in_range (n - q) (q - p) (p - 1) (pos 1) (small_in_range (pos 1) (omega arith))
 
 pub opposite_in_range : (n p q : ℕ) → All IsInRange (opposite (gap_coefs n p q))
-opposite_in_range n p q = subst (All IsInRange) (sym (opposite-gap_coefs n p q)) (copies_in_range (n - q) (q - p) (p - 1) (negsuc 0) (small_in_range (negsuc 0) (omega arith)))
+opposite_in_range n p q = subst (All IsInRange) (sym (opposite-gap_coefs n p q))
+    (copies_in_range (n - q) (q - p) (p - 1) (negsuc 0) (small_in_range (negsuc 0) (omega arith)))
 
 -- a difference of two bits
 bits_in_range : (a b : Bool) → IsInRange (cond a (pos 1) (pos 0) -ℤ cond b (pos 1) (pos 0))
@@ -40,7 +41,8 @@ pub cross_coefs_in_range : (n p q x y : ℕ) → IsPair n p q → IsPair n x y �
 cross_coefs_in_range n p q x y left right = λ k d below.
     let is : get_or (cross_coefs n p q x y) k d ≡ get_or (cross_coefs n p q x y) k (pos 0) = get_or_default (cross_coefs n p q x y) k d (pos 0) below in
     subst IsInRange (sym (is ∙ get_or-cross_coefs n p q x y k))
-    (rw (get_or-gap_coefs n p q k left, get_or-gap_coefs n x y k right) (bits_in_range (nat_le (n - q) k && nat_lt k (n - p)) (nat_le (n - y) k && nat_lt k (n - x))))
+    (rw (get_or-gap_coefs n p q k left, get_or-gap_coefs n x y k right)
+        (bits_in_range (nat_le (n - q) k && nat_lt k (n - p)) (nat_le (n - y) k && nat_lt k (n - x))))
 
 -- the three kinds of rows
 pub IsRow-difference : (n p q bound : ℕ) → IsPair n p q → bound ≤ 255 → IsRow (n - 1) (record { coefs = gap_coefs n p q; bound = pos bound })
@@ -61,7 +63,8 @@ IsRow-opposite n p q in_n = record {
 bound_in_range : (lo hi : ℕ) → lo ≤ 255 → hi ≤ 255 → unsigned_abs (pos lo -ℤ pos hi) ≤ 1000000
 bound_in_range lo hi low high = grind (arith, ints)
 
-pub IsRow-cross : (n p q x y lo hi : ℕ) → IsPair n p q → IsPair n x y → lo ≤ 255 → hi ≤ 255 → IsRow (n - 1) (record { coefs = cross_coefs n p q x y; bound = pos lo -ℤ pos hi })
+pub IsRow-cross : (n p q x y lo hi : ℕ) → IsPair n p q → IsPair n x y → lo ≤ 255 → hi ≤ 255
+    → IsRow (n - 1) (record { coefs = cross_coefs n p q x y; bound = pos lo -ℤ pos hi })
 IsRow-cross n p q x y lo hi left right low high = record {
   one_each = length-cross_coefs n p q x y left right;
   coefs_in_range = cross_coefs_in_range n p q x y left right;

@@ -25,7 +25,8 @@ use Rattle.lp_macbeth.proofs.PairLemmas.{All-from_every, every_from_All}
 use Rattle.lp_macbeth.proofs.TagLemmas.{All-judged_rows}
 
 -- two facts of each element give a third
-pub every_both : {X : Type 0} (P Q R : X → Type 0) → ((x : X) → P x → Q x → R x) → (xs : List X) → AllByRecursion P xs → AllByRecursion Q xs → AllByRecursion R xs
+pub every_both : {X : Type 0} (P Q R : X → Type 0) → ((x : X) → P x → Q x → R x) → (xs : List X) → AllByRecursion P xs → AllByRecursion Q xs
+    → AllByRecursion R xs
 every_both P Q R f [] h k = tt
 every_both P Q R f (x ∷ xs) h k = (f x h.0 k.0, every_both P Q R f xs h.1 k.1)
 
@@ -36,21 +37,27 @@ pub dot-opposite : (xs us : List ℤ) → dot (opposite xs) us ≡ neg_ℤ (dot 
 dot-opposite xs us = dot-scale (negsuc 0) xs us ∙ minus_one-*ℤ (dot xs us)
 
 -- a row holds at gaps exactly where its constraint holds of their scale
-pub met_row : (m : Judgements) (x : List ℤ) (n : ℤ) (tag : Tag) → suc (length x) ≡ m.size → IsTagAmong m.size tag → IsRowMetBy x n (row_of m tag) ↔ RowHolds m (scale_of x) n tag
+pub met_row : (m : Judgements) (x : List ℤ) (n : ℤ) (tag : Tag) → suc (length x) ≡ m.size → IsTagAmong m.size tag
+    → IsRowMetBy x n (row_of m tag) ↔ RowHolds m (scale_of x) n tag
 met_row m x n (Lower p q) each among =
     let d = dot-gap_coefs m.size x p q each among in
     let b : pos (range_at m p q).lo *ℤ n ≡ n *ℤ pos (range_at m p q).lo = *ℤ_comm (pos (range_at m p q).lo) n in
     (λ h. omega (arith, lin, d, b, h), λ h. omega (arith, lin, d, b, h))
 met_row m x n (Zero p q) each among =
-    let d : dot (opposite (gap_coefs m.size p q)) x ≡ neg_ℤ (difference (scale_of x) p q) = dot-opposite (gap_coefs m.size p q) x ∙ ap neg_ℤ (dot-gap_coefs m.size x p q each among) in
+    let d : dot (opposite (gap_coefs m.size p q)) x ≡ neg_ℤ (difference (scale_of x) p q) =
+        dot-opposite (gap_coefs m.size p q) x ∙ ap neg_ℤ (dot-gap_coefs m.size x p q each among) in
     let b : pos 0 *ℤ n ≡ pos 0 = zero-*ℤ n in
     (λ h. omega (arith, lin, d, b, h), λ h. omega (arith, lin, d, b, h))
 met_row m x n (Cross p q u v) each among =
     let d : dot (add (gap_coefs m.size p q) (opposite (gap_coefs m.size u v))) x ≡ difference (scale_of x) p q -ℤ difference (scale_of x) u v =
-    dot-add (gap_coefs m.size p q) (opposite (gap_coefs m.size u v)) x ∙ ap₂ (λ y z. y +ℤ z) (dot-gap_coefs m.size x p q each among.0) (dot-opposite (gap_coefs m.size u v) x ∙ ap neg_ℤ (dot-gap_coefs m.size x u v each among.1)) in
+    dot-add (gap_coefs m.size p q) (opposite (gap_coefs m.size u v)) x
+        ∙ ap₂ (λ y z. y +ℤ z) (dot-gap_coefs m.size x p q each among.0)
+        (dot-opposite (gap_coefs m.size u v) x ∙ ap neg_ℤ (dot-gap_coefs m.size x u v each among.1)) in
     let b = *ℤ_comm (pos (range_at m p q).lo -ℤ pos (range_at m u v).hi) n in (
-      λ h. subst (λ y. y ≤ℤ (difference (scale_of x) p q -ℤ difference (scale_of x) u v)) b (subst (λ z. ((pos (range_at m p q).lo -ℤ pos (range_at m u v).hi) *ℤ n) ≤ℤ z) d h),
-      λ h. subst (λ z. ((pos (range_at m p q).lo -ℤ pos (range_at m u v).hi) *ℤ n) ≤ℤ z) (sym d) (subst (λ y. y ≤ℤ (difference (scale_of x) p q -ℤ difference (scale_of x) u v)) (sym b) h),
+      λ h. subst (λ y. y ≤ℤ (difference (scale_of x) p q -ℤ difference (scale_of x) u v)) b
+          (subst (λ z. ((pos (range_at m p q).lo -ℤ pos (range_at m u v).hi) *ℤ n) ≤ℤ z) d h),
+      λ h. subst (λ z. ((pos (range_at m p q).lo -ℤ pos (range_at m u v).hi) *ℤ n) ≤ℤ z) (sym d)
+          (subst (λ y. y ≤ℤ (difference (scale_of x) p q -ℤ difference (scale_of x) u v)) (sym b) h),
     )
 met_row m x n (Order p) each among =
     let d = dot-gap_coefs m.size x p (p + 1) each (among.0, omega arith, omega arith) in
@@ -66,11 +73,13 @@ gap_coefs_nonneg n p q =
     let one : pos 0 ≤ℤ pos 1 = omega (arith, lin) in
     let P : ℤ → Type 0 = λ c. pos 0 ≤ℤ c in
     All-append P (replicate (n - q) (pos 0) ++ replicate (q - p) (pos 1)) (replicate (p - 1) (pos 0))
-    (All-append P (replicate (n - q) (pos 0)) (replicate (q - p) (pos 1)) (All-replicate P (n - q) (pos 0) zero) (All-replicate P (q - p) (pos 1) one)) (All-replicate P (p - 1) (pos 0) zero)
+    (All-append P (replicate (n - q) (pos 0)) (replicate (q - p) (pos 1)) (All-replicate P (n - q) (pos 0) zero) (All-replicate P (q - p) (pos 1) one))
+        (All-replicate P (p - 1) (pos 0) zero)
 
 -- so no element stands below a later one
 pub scale_falls : (n : ℕ) (x : List ℤ) (p q : ℕ) → suc (length x) ≡ n → IsPair n p q → AreNonNegative x → pos 0 ≤ℤ difference (scale_of x) p q
-scale_falls n x p q each in_n nonneg = subst (λ d. pos 0 ≤ℤ d) (dot-gap_coefs n x p q each in_n) (dot_nonneg (gap_coefs n p q) x (gap_coefs_nonneg n p q) nonneg)
+scale_falls n x p q each in_n nonneg = subst (λ d. pos 0 ≤ℤ d) (dot-gap_coefs n x p q each in_n)
+    (dot_nonneg (gap_coefs n p q) x (gap_coefs_nonneg n p q) nonneg)
 
 -- a gap is the difference of two neighbours
 pub gap_is : (n : ℕ) (x : List ℤ) (k : ℕ) → suc (length x) ≡ n → k < length x → difference (scale_of x) (n - 1 - k) (n - 1 - k + 1) ≡ get_or x k (pos 0)
@@ -94,26 +103,32 @@ IsScale-scale_of m x n each den = record {
 }
 
 -- the rows at a point, and what they say of its scale
-judged_from_met : (m : Judgements) (x : List ℤ) (n : ℤ) → suc (length x) ≡ m.size → All (IsRowMetBy x n) (map (row_of m) (judged_rows m)) → AllByRecursion (RowHolds m (scale_of x) n) (judged_rows m)
+judged_from_met : (m : Judgements) (x : List ℤ) (n : ℤ) → suc (length x) ≡ m.size → All (IsRowMetBy x n) (map (row_of m) (judged_rows m))
+    → AllByRecursion (RowHolds m (scale_of x) n) (judged_rows m)
 judged_from_met m x n each h =
-    every_both (IsTagAmong m.size) (λ tag. IsRowMetBy x n (row_of m tag)) (RowHolds m (scale_of x) n) (λ tag among met. (met_row m x n tag each among).0 met) (judged_rows m)
+    every_both (IsTagAmong m.size) (λ tag. IsRowMetBy x n (row_of m tag)) (RowHolds m (scale_of x) n) (λ tag among met. (met_row m x n tag each among).0 met)
+        (judged_rows m)
     (every_from_All (IsTagAmong m.size) (judged_rows m) (All-judged_rows m))
     (every_from_map (IsRowMetBy x n) (row_of m) (judged_rows m) (every_from_All (IsRowMetBy x n) (map (row_of m) (judged_rows m)) h))
 
-met_from_judged : (m : Judgements) (x : List ℤ) (n : ℤ) → suc (length x) ≡ m.size → AllByRecursion (RowHolds m (scale_of x) n) (judged_rows m) → All (IsRowMetBy x n) (map (row_of m) (judged_rows m))
+met_from_judged : (m : Judgements) (x : List ℤ) (n : ℤ) → suc (length x) ≡ m.size → AllByRecursion (RowHolds m (scale_of x) n) (judged_rows m)
+    → All (IsRowMetBy x n) (map (row_of m) (judged_rows m))
 met_from_judged m x n each h =
     All-from_every (IsRowMetBy x n) (map (row_of m) (judged_rows m)) (every-map (IsRowMetBy x n) (row_of m) (judged_rows m)
-    (every_both (IsTagAmong m.size) (RowHolds m (scale_of x) n) (λ tag. IsRowMetBy x n (row_of m tag)) (λ tag among holds. (met_row m x n tag each among).1 holds) (judged_rows m)
+    (every_both (IsTagAmong m.size) (RowHolds m (scale_of x) n) (λ tag. IsRowMetBy x n (row_of m tag))
+        (λ tag among holds. (met_row m x n tag each among).1 holds) (judged_rows m)
     (every_from_All (IsTagAmong m.size) (judged_rows m) (All-judged_rows m)) h))
 
 -- the rows met at gaps of at least 0, and the judgements met by their scale, in any unit of at least 0
-pub met_where_rows_are : (m : Judgements) (x : List ℤ) (n : ℤ) → suc (length x) ≡ m.size → pos 0 ≤ℤ n → (AreNonNegative x × All (IsRowMetBy x n) (map (row_of m) (judged_rows m))) ↔ IsMetInUnit m n (scale_of x)
+pub met_where_rows_are : (m : Judgements) (x : List ℤ) (n : ℤ) → suc (length x) ≡ m.size → pos 0 ≤ℤ n
+    → (AreNonNegative x × All (IsRowMetBy x n) (map (row_of m) (judged_rows m))) ↔ IsMetInUnit m n (scale_of x)
 met_where_rows_are m x n each unit = (to, from)
   where
     to : AreNonNegative x × All (IsRowMetBy x n) (map (row_of m) (judged_rows m)) → IsMetInUnit m n (scale_of x)
     to h =
         let Holds : Tag → Type 0 = RowHolds m (scale_of x) n in
-        let order : AllByRecursion Holds (order_rows m) = every-map Holds (λ p. Order p) (range_with_len 1 (m.size - 1)) (every-range (λ p. Holds (Order p)) 1 (m.size - 1)
+        let order : AllByRecursion Holds (order_rows m) =
+            every-map Holds (λ p. Order p) (range_with_len 1 (m.size - 1)) (every-range (λ p. Holds (Order p)) 1 (m.size - 1)
         (λ p low high. scale_falls m.size x p (p + 1) each (low, omega arith, omega arith) h.0)) in
         met_from_rows m (scale_of x) n (every-append Holds (judged_rows m) (order_rows m) (judged_from_met m x n each h.1) order)
 

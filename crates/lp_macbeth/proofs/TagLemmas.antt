@@ -23,14 +23,17 @@ use Rattle.lp_macbeth.proofs.PairLemmas.{All-from_every}
 pub lower_rows_of-append : (m : Judgements) (ps qs : List (ℕ × ℕ)) → lower_rows_of m (ps ++ qs) ≡ lower_rows_of m ps ++ lower_rows_of m qs
 lower_rows_of-append m ps qs =
     ap (map (λ (pair : ℕ × ℕ). Lower pair.0 pair.1)) (filter-append (λ (pair : ℕ × ℕ). nat_le 1 (range_at m pair.0 pair.1).lo) ps qs)
-    ∙ map-append (λ (pair : ℕ × ℕ). Lower pair.0 pair.1) (filter (λ (pair : ℕ × ℕ). nat_le 1 (range_at m pair.0 pair.1).lo) ps) (filter (λ (pair : ℕ × ℕ). nat_le 1 (range_at m pair.0 pair.1).lo) qs)
+    ∙ map-append (λ (pair : ℕ × ℕ). Lower pair.0 pair.1) (filter (λ (pair : ℕ × ℕ). nat_le 1 (range_at m pair.0 pair.1).lo) ps)
+        (filter (λ (pair : ℕ × ℕ). nat_le 1 (range_at m pair.0 pair.1).lo) qs)
 
 pub zero_rows_of-append : (m : Judgements) (ps qs : List (ℕ × ℕ)) → zero_rows_of m (ps ++ qs) ≡ zero_rows_of m ps ++ zero_rows_of m qs
 zero_rows_of-append m ps qs =
     ap (map (λ (pair : ℕ × ℕ). Zero pair.0 pair.1)) (filter-append (λ (pair : ℕ × ℕ). (range_at m pair.0 pair.1).hi == 0) ps qs)
-    ∙ map-append (λ (pair : ℕ × ℕ). Zero pair.0 pair.1) (filter (λ (pair : ℕ × ℕ). (range_at m pair.0 pair.1).hi == 0) ps) (filter (λ (pair : ℕ × ℕ). (range_at m pair.0 pair.1).hi == 0) qs)
+    ∙ map-append (λ (pair : ℕ × ℕ). Zero pair.0 pair.1) (filter (λ (pair : ℕ × ℕ). (range_at m pair.0 pair.1).hi == 0) ps)
+        (filter (λ (pair : ℕ × ℕ). (range_at m pair.0 pair.1).hi == 0) qs)
 
-pub cross_rows_of-append : (m : Judgements) (rights ps qs : List (ℕ × ℕ)) → cross_rows_of m (ps ++ qs) rights ≡ cross_rows_of m ps rights ++ cross_rows_of m qs rights
+pub cross_rows_of-append : (m : Judgements) (rights ps qs : List (ℕ × ℕ))
+    → cross_rows_of m (ps ++ qs) rights ≡ cross_rows_of m ps rights ++ cross_rows_of m qs rights
 cross_rows_of-append m rights ps qs = flat_map-append (λ left. cross_rows_under m left rights) ps qs
 
 -- for the code's loops
@@ -48,15 +51,19 @@ some_pairs n P test h =
 every-judged_rows : (m : Judgements) → AllByRecursion (IsTagAmong m.size) (judged_rows m)
 every-judged_rows m =
     let Among : Tag → Type 0 = IsTagAmong m.size in
-    let lower : AllByRecursion Among (lower_rows_of m (pairs m.size)) = every-map Among (λ (pair : ℕ × ℕ). Lower pair.0 pair.1) _ (some_pairs m.size (λ pair. Among (Lower pair.0 pair.1)) _ (λ p q h. h)) in
-    let zero : AllByRecursion Among (zero_rows_of m (pairs m.size)) = every-map Among (λ (pair : ℕ × ℕ). Zero pair.0 pair.1) _ (some_pairs m.size (λ pair. Among (Zero pair.0 pair.1)) _ (λ p q h. h)) in
+    let lower : AllByRecursion Among (lower_rows_of m (pairs m.size)) =
+        every-map Among (λ (pair : ℕ × ℕ). Lower pair.0 pair.1) _ (some_pairs m.size (λ pair. Among (Lower pair.0 pair.1)) _ (λ p q h. h)) in
+    let zero : AllByRecursion Among (zero_rows_of m (pairs m.size)) =
+        every-map Among (λ (pair : ℕ × ℕ). Zero pair.0 pair.1) _ (some_pairs m.size (λ pair. Among (Zero pair.0 pair.1)) _ (λ p q h. h)) in
     let cross : AllByRecursion Among (cross_rows_of m (pairs m.size) (pairs m.size)) =
     every-flat_map Among _ (pairs m.size) (every-pairs m.size (λ p q. AllByRecursion Among (cross_rows_under m (p, q) (pairs m.size)))
-    (λ p q h. every-map Among (λ (right : ℕ × ℕ). Cross p q right.0 right.1) _ (some_pairs m.size (λ right. Among (Cross p q right.0 right.1)) _ (λ x y k. (h, k))))) in
+    (λ p q h. every-map Among (λ (right : ℕ × ℕ). Cross p q right.0 right.1) _
+        (some_pairs m.size (λ right. Among (Cross p q right.0 right.1)) _ (λ x y k. (h, k))))) in
     every-append Among _ _ (every-append Among _ _ lower zero) cross
 
 every-order_rows : (m : Judgements) → AllByRecursion (IsTagAmong m.size) (order_rows m)
-every-order_rows m = every-map (IsTagAmong m.size) (λ p. Order p) (range_with_len 1 (m.size - 1)) (every-range (λ p. IsTagAmong m.size (Order p)) 1 (m.size - 1) (λ k low high. (low, omega arith)))
+every-order_rows m = every-map (IsTagAmong m.size) (λ p. Order p) (range_with_len 1 (m.size - 1))
+    (every-range (λ p. IsTagAmong m.size (Order p)) 1 (m.size - 1) (λ k low high. (low, omega arith)))
 
 every-closed_tags : (m : Judgements) → AllByRecursion (IsTagAmong m.size) (closed_tags m)
 every-closed_tags m =
@@ -65,7 +72,8 @@ every-closed_tags m =
     let zero = zero_rows_of m (pairs m.size) in
     let cross = cross_rows_of m (pairs m.size) (pairs m.size) in
     let all = every-judged_rows m in
-    every-append Among zero cross (every-append_right Among lower zero (every-append_left Among (lower ++ zero) cross all)) (every-append_right Among (lower ++ zero) cross all)
+    every-append Among zero cross (every-append_right Among lower zero (every-append_left Among (lower ++ zero) cross all))
+        (every-append_right Among (lower ++ zero) cross all)
 
 pub All-closed_tags : (m : Judgements) → All (IsTagAmong m.size) (closed_tags m)
 All-closed_tags m = All-from_every (IsTagAmong m.size) (closed_tags m) (every-closed_tags m)
@@ -74,18 +82,24 @@ pub All-judged_rows : (m : Judgements) → All (IsTagAmong m.size) (judged_rows 
 All-judged_rows m = All-from_every (IsTagAmong m.size) (judged_rows m) (every-judged_rows m)
 
 pub All-rows : (m : Judgements) → All (IsTagAmong m.size) (rows m)
-All-rows m = All-append (IsTagAmong m.size) (judged_rows m) (order_rows m) (All-judged_rows m) (All-from_every (IsTagAmong m.size) (order_rows m) (every-order_rows m))
+All-rows m = All-append (IsTagAmong m.size) (judged_rows m) (order_rows m) (All-judged_rows m)
+    (All-from_every (IsTagAmong m.size) (order_rows m) (every-order_rows m))
 
 -- ---- the pairs under a category, as the code looks them up
 
 -- the list of a category
-pub rights_are : (m : Judgements) (ps : List (ℕ × ℕ)) (lists : List (List (ℕ × ℕ))) (category : ℕ) (rights : List (ℕ × ℕ)) → lists ≡ map (λ (i : ℕ). under m ps i) (numbers_from 0 7) → category < 7 → rights ≡ get_or lists category rights → rights ≡ under m ps category
+pub rights_are : (m : Judgements) (ps : List (ℕ × ℕ)) (lists : List (List (ℕ × ℕ))) (category : ℕ) (rights : List (ℕ × ℕ))
+    → lists ≡ map (λ (i : ℕ). under m ps i) (numbers_from 0 7) → category < 7 → rights ≡ get_or lists category rights → rights ≡ under m ps category
 rights_are m ps lists category rights made below is =
-    is ∙ ap (λ l. get_or l category rights) made ∙ get_or-map (λ (i : ℕ). under m ps i) (numbers_from 0 7) category 0 rights (omega (arith, length-numbers_from 0 7))
+    is ∙ ap (λ l. get_or l category rights) made ∙ get_or-map (λ (i : ℕ). under m ps i) (numbers_from 0 7) category 0 rights
+        (omega (arith, length-numbers_from 0 7))
     ∙ ap (λ i. under m ps i) (get_or-numbers_from 0 7 category 0 below ∙ zero-add category)
 
 -- the rows of the next pair
-pub cross_next : (m : Judgements) (ps : List (ℕ × ℕ)) (i : ℕ) (done all now : List Tag) (rights : List (ℕ × ℕ)) → i < length ps → rights ≡ under m ps (range_at m (get_or ps i (0, 0)).0 (get_or ps i (0, 0)).1).lo → done ++ cross_rows_of m (drop i ps) ps ≡ all → now ≡ done ++ map (λ right. Cross (get_or ps i (0, 0)).0 (get_or ps i (0, 0)).1 right.0 right.1) rights → now ++ cross_rows_of m (drop (i + 1) ps) ps ≡ all
+pub cross_next : (m : Judgements) (ps : List (ℕ × ℕ)) (i : ℕ) (done all now : List Tag) (rights : List (ℕ × ℕ)) → i < length ps
+    → rights ≡ under m ps (range_at m (get_or ps i (0, 0)).0 (get_or ps i (0, 0)).1).lo → done ++ cross_rows_of m (drop i ps) ps ≡ all
+    → now ≡ done ++ map (λ right. Cross (get_or ps i (0, 0)).0 (get_or ps i (0, 0)).1 right.0 right.1) rights
+    → now ++ cross_rows_of m (drop (i + 1) ps) ps ≡ all
 cross_next m ps i done all now rights below is invariant added =
     let left : ℕ × ℕ = get_or ps i (0, 0) in
     let more : suc i ≡ i + 1 = omega arith in

@@ -51,7 +51,8 @@ cross_from n d e a b i j high low between =
     let split : n *ℤ (pos i -ℤ pos j) ≡ n *ℤ pos i -ℤ n *ℤ pos j = ring3 (λ n i j. n ⊗ (i ⊖ j) ≗ n ⊗ i ⊖ n ⊗ j) refl n (pos i) (pos j) in
     omega (arith, lin, split, high, low, between)
 
-pub met_from_separates : (m : Judgements) (w t : List ℤ) (n : ℤ) → IsMatrix m → AreNonNegative t → ((p q : ℕ) → IsPair m.size p q → pos 0 ≤ℤ difference w p q) → Separates m w t n → IsMetInUnit m n w
+pub met_from_separates : (m : Judgements) (w t : List ℤ) (n : ℤ) → IsMatrix m → AreNonNegative t → ((p q : ℕ) → IsPair m.size p q → pos 0 ≤ℤ difference w p q)
+    → Separates m w t n → IsMetInUnit m n w
 met_from_separates m w t n matrix nonneg falls h = record {
   lower = λ p q in_n. lower p q in_n (cases_lt 0 (range_at m p q).lo);
   zero = h.equal;
@@ -69,21 +70,25 @@ met_from_separates m w t n matrix nonneg falls h = record {
         let up = falls p q in_n in
         omega (arith, lin, zero, up)
 
-    cross : (p q x y : ℕ) → IsPair m.size p q → IsPair m.size x y → (range_at m x y).hi < (range_at m p q).lo → (0 < (range_at m x y).hi) ⊎ ((range_at m x y).hi ≤ 0) → (n *ℤ (pos (range_at m p q).lo -ℤ pos (range_at m x y).hi)) ≤ℤ (difference w p q -ℤ difference w x y)
+    cross : (p q x y : ℕ) → IsPair m.size p q → IsPair m.size x y → (range_at m x y).hi < (range_at m p q).lo
+        → (0 < (range_at m x y).hi) ⊎ ((range_at m x y).hi ≤ 0)
+        → (n *ℤ (pos (range_at m p q).lo -ℤ pos (range_at m x y).hi)) ≤ℤ (difference w p q -ℤ difference w x y)
     cross p q x y left right l (inl low) =
         let i : ℕ = (range_at m p q).lo in
         let j : ℕ = (range_at m x y).hi in
         let most : i ≤ 6 = omega (arith, (IsRange-range_at m matrix p q).0, (IsRange-range_at m matrix p q).1) in
         let e : j + (i - 1 - j) ≡ i - 1 = omega arith in
         let between = subst (λ k. threshold_at t j ≤ℤ threshold_at t k) e (rising m w t n h j (i - 1 - j) (omega arith) (omega arith)) in
-        cross_from n (difference w p q) (difference w x y) (threshold_at t (i - 1)) (threshold_at t j) i j (h.at p q left (omega arith)) (h.below x y right (omega arith) (omega arith)) between
+        cross_from n (difference w p q) (difference w x y) (threshold_at t (i - 1)) (threshold_at t j) i j (h.at p q left (omega arith))
+            (h.below x y right (omega arith) (omega arith)) between
     cross p q x y left right l (inr none) =
         let i : ℕ = (range_at m p q).lo in
         let j : ℕ = (range_at m x y).hi in
         let e : j ≡ 0 = omega arith in
         let zero : n *ℤ pos j ≡ pos 0 = ap (λ k. n *ℤ pos k) e ∙ *ℤ-zero n in
         let low : difference w x y ≤ℤ (n *ℤ pos j +ℤ pos 0) = (let d = h.equal x y right e in omega (arith, lin, d, zero)) in
-        cross_from n (difference w p q) (difference w x y) (threshold_at t (i - 1)) (pos 0) i j (h.at p q left (omega arith)) low (threshold_nonneg t nonneg (i - 1))
+        cross_from n (difference w p q) (difference w x y) (threshold_at t (i - 1)) (pos 0) i j (h.at p q left (omega arith)) low
+            (threshold_nonneg t nonneg (i - 1))
 
 -- ---- to thresholds
 
@@ -177,21 +182,26 @@ test_same : (a b : ℕ) → a ≡ b → (a == b) ≡ true
 test_same a b h = grind (arith, common_steps)
 
 -- a pair is at most as far over its last category as the level of that category
-level_above : (m : Judgements) (w : List ℤ) (n : ℤ) (h p q : ℕ) → IsPair m.size p q → (range_at m p q).hi ≡ h → (difference w p q -ℤ n *ℤ pos h) ≤ℤ level m w n h
+level_above : (m : Judgements) (w : List ℤ) (n : ℤ) (h p q : ℕ) → IsPair m.size p q → (range_at m p q).hi ≡ h
+    → (difference w p q -ℤ n *ℤ pos h) ≤ℤ level m w n h
 level_above m w n h p q in_n e =
     let f : ℕ × ℕ → ℤ = λ (pair : ℕ × ℕ). difference w pair.0 pair.1 -ℤ n *ℤ pos h in
     let all = every_from_map (λ z. z ≤ℤ level m w n h) f (filter (ends_at m h) (pairs m.size)) (top_above (map f (filter (ends_at m h) (pairs m.size)))) in
-    every_at_pair m.size (λ p q. ends_at m h (p, q) ≡ true → f (p, q) ≤ℤ level m w n h) (every_from_filter (λ pair. f pair ≤ℤ level m w n h) (ends_at m h) (pairs m.size) all) p q in_n (test_same (range_at m p q).hi h e)
+    every_at_pair m.size (λ p q. ends_at m h (p, q) ≡ true → f (p, q) ≤ℤ level m w n h)
+        (every_from_filter (λ pair. f pair ≤ℤ level m w n h) (ends_at m h) (pairs m.size) all) p q in_n (test_same (range_at m p q).hi h e)
 
 -- a level is at most what 0 and those of its pairs are at most
-level_least : (m : Judgements) (w : List ℤ) (n : ℤ) (h : ℕ) (b : ℤ) → pos 0 ≤ℤ b → ((x y : ℕ) → IsPair m.size x y → (range_at m x y).hi ≡ h → (difference w x y -ℤ n *ℤ pos h) ≤ℤ b) → level m w n h ≤ℤ b
+level_least : (m : Judgements) (w : List ℤ) (n : ℤ) (h : ℕ) (b : ℤ) → pos 0 ≤ℤ b
+    → ((x y : ℕ) → IsPair m.size x y → (range_at m x y).hi ≡ h → (difference w x y -ℤ n *ℤ pos h) ≤ℤ b) → level m w n h ≤ℤ b
 level_least m w n h b nonneg each =
     let f : ℕ × ℕ → ℤ = λ (pair : ℕ × ℕ). difference w pair.0 pair.1 -ℤ n *ℤ pos h in
     top_least (map f (filter (ends_at m h) (pairs m.size))) b nonneg (every-map (λ z. z ≤ℤ b) f (filter (ends_at m h) (pairs m.size))
-    (every-filter (λ pair. f pair ≤ℤ b) (ends_at m h) (pairs m.size) (every-pairs m.size (λ x y. ends_at m h (x, y) ≡ true → f (x, y) ≤ℤ b) (λ x y in_n e. each x y in_n (same_test (range_at m x y).hi h e)))))
+    (every-filter (λ pair. f pair ≤ℤ b) (ends_at m h) (pairs m.size)
+        (every-pairs m.size (λ x y. ends_at m h (x, y) ≡ true → f (x, y) ≤ℤ b) (λ x y in_n e. each x y in_n (same_test (range_at m x y).hi h e)))))
 
 -- a pair of least category lo is at least as far over it as the thresholds below
-cut_below : (m : Judgements) (w : List ℤ) (n : ℤ) → IsMetInUnit m n w → (p q : ℕ) → IsPair m.size p q → (k : ℕ) → k < (range_at m p q).lo → cut m w n k ≤ℤ (difference w p q -ℤ n *ℤ pos (range_at m p q).lo)
+cut_below : (m : Judgements) (w : List ℤ) (n : ℤ) → IsMetInUnit m n w → (p q : ℕ) → IsPair m.size p q → (k : ℕ) → k < (range_at m p q).lo
+    → cut m w n k ≤ℤ (difference w p q -ℤ n *ℤ pos (range_at m p q).lo)
 cut_below m w n met p q in_n zero h = let bound = met.lower p q in_n in omega (arith, lin, bound)
 cut_below m w n met p q in_n (suc k) h =
     let b : ℤ = difference w p q -ℤ n *ℤ pos (range_at m p q).lo in
@@ -199,7 +209,8 @@ cut_below m w n met p q in_n (suc k) h =
     let so_far = cut_below m w n met p q in_n k (omega arith) in
     let over : level m w n (suc k) ≤ℤ b = level_least m w n (suc k) b (omega (arith, lin, bound)) (λ x y other e.
     let above = met.cross p q x y in_n other (subst (λ j. j < (range_at m p q).lo) (sym e) h) in
-    let split : n *ℤ (pos (range_at m p q).lo -ℤ pos (range_at m x y).hi) ≡ n *ℤ pos (range_at m p q).lo -ℤ n *ℤ pos (range_at m x y).hi = ring3 (λ n i j. n ⊗ (i ⊖ j) ≗ n ⊗ i ⊖ n ⊗ j) refl n (pos (range_at m p q).lo) (pos (range_at m x y).hi) in
+    let split : n *ℤ (pos (range_at m p q).lo -ℤ pos (range_at m x y).hi) ≡ n *ℤ pos (range_at m p q).lo -ℤ n *ℤ pos (range_at m x y).hi =
+        ring3 (λ n i j. n ⊗ (i ⊖ j) ≗ n ⊗ i ⊖ n ⊗ j) refl n (pos (range_at m p q).lo) (pos (range_at m x y).hi) in
     let same : n *ℤ pos (range_at m x y).hi ≡ n *ℤ pos (suc k) = ap (λ j. n *ℤ pos j) e in
     omega (arith, lin, above, split, same)) in
     elim (greater_cases (cut m w n k) (level m w n (suc k))) [
@@ -208,7 +219,8 @@ cut_below m w n met p q in_n (suc k) h =
     ]
 
 -- a pair of greatest category hi is at most as far over it as its threshold
-cut_above : (m : Judgements) (w : List ℤ) (n : ℤ) (p q j : ℕ) → IsPair m.size p q → (range_at m p q).hi ≡ j → 1 ≤ j → difference w p q ≤ℤ (n *ℤ pos j +ℤ cut m w n j)
+cut_above : (m : Judgements) (w : List ℤ) (n : ℤ) (p q j : ℕ) → IsPair m.size p q → (range_at m p q).hi ≡ j → 1 ≤ j
+    → difference w p q ≤ℤ (n *ℤ pos j +ℤ cut m w n j)
 cut_above m w n p q zero in_n e low = absurd (omega arith)
 cut_above m w n p q (suc j) in_n e low =
     let over = level_above m w n (suc j) p q in_n e in

@@ -1,5 +1,5 @@
--- The problem that asks for the least difference of two elements over the closure of a criterion's open scales: lists that meet the
--- matrix in some unit of at least 0, with good and neutral 100 apart and a span of at most the reach.
+-- The problem that asks for the least difference of two elements over the closure of a criterion's open scales: lists
+-- that meet the matrix in some unit of at least 0, with good and neutral 100 apart and a span of at most the reach.
 use Rattle.std.specs.Prelude.{◌≡◌, ℕ, ◌-◌, ℤ, pos, neg_ℤ, negsuc, ◌+ℤ◌, ◌*ℤ◌, ◌≤ℤ◌, List, [], ◌∷◌, ◌++◌, map, replicate, cond, nat_lt}
 use Rattle.frac128.specs.Problem.{ProblemData}
 use Rattle.frac128.specs.declared.problem.Row.{Row}
@@ -23,7 +23,8 @@ abbrev pub anchor_up : ℕ → ℕ → ℕ → Row
 anchor_up n good neutral = record { coefs = gap_coefs n good neutral ++ pos 0 ∷ []; bound = pos 100 }
 
 abbrev pub anchor_down : ℕ → ℕ → ℕ → Row
-anchor_down n good neutral = record { coefs = opposite (gap_coefs n good neutral) ++ pos 0 ∷ []; bound = neg_ℤ (pos 100) }
+anchor_down n good neutral = record { coefs = opposite (gap_coefs n good neutral) ++ pos 0 ∷ []; bound =
+    neg_ℤ (pos 100) }
 
 -- the span and the room are the reach, as two rows
 abbrev pub reach_up : ℕ → ℕ → Row
@@ -45,10 +46,13 @@ abbrev pub closed_problem_of : Judgements → ℕ → ℕ → ℕ → ℕ → �
 closed_problem_of m good neutral reach a b = record {
   vars = m.size;
   cost = closed_cost m.size a b;
-  rows = map (closed_row_of m) (closed_tags m) ++ anchor_up m.size good neutral ∷ anchor_down m.size good neutral ∷ reach_up m.size reach ∷ reach_down m.size reach ∷ [];
+  rows = map (closed_row_of m) (closed_tags m)
+    ++ anchor_up m.size good neutral ∷ anchor_down m.size good neutral
+    ∷ reach_up m.size reach ∷ reach_down m.size reach ∷ [];
 }
 
--- w over n is a scale that meets the judgements in unit 0, good stands 100 above neutral, and the span leaves the room r of the reach
+-- w over n is a scale that meets the judgements in unit 0, good stands 100 above neutral, and the span leaves the room
+-- r of the reach
 pub record IsClosedScale (m : Judgements) (good neutral reach : ℕ) (w : List ℤ) (r n : ℤ) : Type 0 where
   pub scale : IsScale m w n
   pub meets : IsMetInUnit m (pos 0) w

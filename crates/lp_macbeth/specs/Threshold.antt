@@ -1,5 +1,5 @@
--- The threshold problem of a matrix: five thresholds T(1) to T(5) stand between the categories, so that each pair is compared with
--- them in place of all other pairs.
+-- The threshold problem of a matrix: five thresholds T(1) to T(5) stand between the categories, so that each pair is
+-- compared with them in place of all other pairs.
 use Rattle.std.specs.Prelude.{ℕ, zero, suc, ◌+◌, ◌-◌, ◌≤◌, ℤ, pos, negsuc, neg_ℤ, List, ◌++◌, map, filter, replicate, set, nat_le, ◌==◌, ◌&&◌}
 use Rattle.std.specs.List.{range_with_len}
 use Rattle.frac128.specs.Problem.{ProblemData}
@@ -38,9 +38,11 @@ step_rows = map (λ k. Step k) (range_with_len 2 4)
 
 -- all rows in order
 abbrev pub threshold_rows : Judgements → List ThresholdTag
-threshold_rows m = at_rows_of m (pairs m.size) ++ equal_rows_of m (pairs m.size) ++ below_rows_of m (pairs m.size) ++ step_rows
+threshold_rows m = at_rows_of m (pairs m.size) ++ equal_rows_of m (pairs m.size) ++ below_rows_of m (pairs m.size)
+    ++ step_rows
 
--- the constraint of a tag: d(p, q) - T(i - 1) ≥ i for lo = i, -d(p, q) ≥ 0, T(j) - d(p, q) ≥ -j for hi = j, T(k) - T(k - 1) ≥ 0
+-- the constraint of a tag: d(p, q) - T(i - 1) ≥ i for lo = i, -d(p, q) ≥ 0, T(j) - d(p, q) ≥ -j for hi = j,
+-- T(k) - T(k - 1) ≥ 0
 abbrev pub threshold_row_of : Judgements → ThresholdTag → Row
 threshold_row_of m (At p q) = record {
   coefs = gap_coefs m.size p q ++ threshold ((range_at m p q).lo - 1) (negsuc 0);

@@ -4,4 +4,5 @@ use Rattle.lp_macbeth.specs.Pairs.{under}
 use Rattle.lp_macbeth.proofs.pairs.under_each.Given as goal
 
 abbrev pub invariant-loop-category : goal.invariant-loop-category
-invariant-loop-category l = l.lists.items ++ map (λ (i : ℕ). under l.matrix l.pairs i) (numbers_from l.category (7 - l.category)) ≡ map (λ (i : ℕ). under l.matrix l.pairs i) (numbers_from 0 7)
+invariant-loop-category l = l.lists.items ++ map (λ (i : ℕ). under l.matrix l.pairs i) (numbers_from l.category (7 - l.category)) ≡ map
+    (λ (i : ℕ). under l.matrix l.pairs i) (numbers_from 0 7)
