@@ -23,3 +23,6 @@ pub use limits::{CRITERIA, GROUPS, LEAST_REACH, MOST_REACH, NAME_BYTES, NEW_REAC
 pub use model::Model;
 pub use name::{Name, NoMemory, is_reserved, valid_name};
 pub use text::{Pointer, Text};
+
+#[cfg(test)]
+mod word_tests;
