@@ -1,3 +1,5 @@
 pub mod CertLemmas
 pub mod LineLemmas
+pub mod LineParts
 pub mod PairLemmas
+pub mod ReplyLines

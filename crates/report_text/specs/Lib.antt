@@ -6,3 +6,4 @@ pub mod Matrices
 pub mod Certificates
 pub mod Lists
 pub mod Reply
+pub mod OneLine

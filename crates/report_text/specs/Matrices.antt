@@ -1,5 +1,5 @@
 -- Matrices, their rows and their repairs.
-use Rattle.std.specs.Prelude.{◌≡◌, ℕ, ℤ, pos, List, [], ◌∷◌, ◌++◌, map, length, All, codes, if◌then◌else◌}
+use Rattle.std.specs.Prelude.{◌≡◌, ℕ, ℤ, pos, List, [], ◌∷◌, ◌++◌, map, length, codes, if◌then◌else◌}
 use Rattle.std.specs.Fmt.{decimal, signed_decimal}
 use Rattle.std.specs.List.{zip, flat_map}
 use Rattle.std.specs.Ordering.{int_eq}
@@ -9,7 +9,7 @@ use Rattle.judgement_matrix.specs.declared.shift.Shift.{Shift}
 use Rattle.judgement_matrix.specs.declared.tag.Tag.{Tag}
 use Rattle.model_core.specs.Categories.{range_text}
 use Rattle.report_text.specs.Lines.{counted}
-use Rattle.report_text.specs.Names.{quoted, two_names, pair_words, tag_words, IsPlace, IsTagOf}
+use Rattle.report_text.specs.Names.{quoted, two_names, pair_words, tag_words, IsPlace}
 
 -- a judged pair and its range
 abbrev pub judged_line : List (List ℕ) → ℕ × ℕ × Bounds → List ℕ

@@ -1,5 +1,5 @@
 -- Names, and places among names, which count from 1.
-use Rattle.std.specs.Prelude.{ℕ, ◌-◌, ◌≤◌, List, [], ◌++◌, length, slice_index_or, codes}
+use Rattle.std.specs.Prelude.{ℕ, ◌-◌, ◌≤◌, List, [], ◌++◌, slice_index_or, codes}
 use Rattle.judgement_matrix.specs.declared.tag.Tag.{Tag}
 use Rattle.judgement_matrix.specs.declared.tag.Tag.TheVariants.{Lower, Zero, Cross, Order}
 

@@ -2,6 +2,7 @@
 #![tactic(auto)]
 
 mod certificates;
+pub mod laws;
 mod lists;
 mod matrices;
 mod print;

@@ -1,4 +1,4 @@
-use Rattle.std.proofs.Common.{◌≡◌, ◌∙◌, ◌++◌, ap, subst, rules}
+use Rattle.std.proofs.Common.{◌≡◌, ◌∙◌, ◌++◌, subst, rules}
 use Rattle.std.specs.Prelude.{OnOk, string_bytes}
 use Rattle.cert_check.specs.Text.{cert_text}
 use Rattle.report_text.proofs.CertLemmas.{cert_text_is}
