@@ -25,4 +25,8 @@ pub use name::{Name, NoMemory, is_reserved, valid_name};
 pub use text::{Pointer, Text};
 
 #[cfg(test)]
+mod edit_tests;
+#[cfg(test)]
+mod script;
+#[cfg(test)]
 mod word_tests;
