@@ -73,9 +73,9 @@ every_thing P (x ∷ xs) h = (h x, every_thing P xs h)
 lower_in_unit_zero : (m : Judgements) (x : List ℤ) → AreNonNegative x → AllByRecursion (λ tag. IsRowMetBy x (pos 0) (row_of m tag)) (lower_rows m)
 lower_in_unit_zero m x nonneg =
     every-map (λ tag. IsRowMetBy x (pos 0) (row_of m tag)) (λ pair. Lower pair.0 pair.1)
-        (filter (λ pair. nat_le 1 (range_at m pair.0 pair.1).lo) (pairs m.size))
+    (filter (λ pair. nat_le 1 (range_at m pair.0 pair.1).lo) (pairs m.size))
     (every_thing (λ pair. IsRowMetBy x (pos 0) (row_of m (Lower pair.0 pair.1))) (filter (λ pair. nat_le 1 (range_at m pair.0 pair.1).lo) (pairs m.size))
-        (λ pair.
+    (λ pair.
     let up = dot_nonneg (gap_coefs m.size pair.0 pair.1) x (gap_coefs_nonneg m.size pair.0 pair.1) nonneg in
     let none : pos (range_at m pair.0 pair.1).lo *ℤ pos 0 ≡ pos 0 = *ℤ-zero (pos (range_at m pair.0 pair.1).lo) in
     omega (arith, lin, up, none)))
@@ -95,9 +95,9 @@ compared_iff_met m x z n R says each nonneg = (to, from)
         let zero = every-append_left Q (zero_rows m) (cross_rows m) compared in
         let cross = every-append_right Q (zero_rows m) (cross_rows m) compared in
         let all = every-append Q (lower_rows m ++ zero_rows m) (cross_rows m) (every-append Q (lower_rows m) (zero_rows m) (lower_in_unit_zero m x nonneg) zero)
-            cross in
+        cross in
         (met_where_rows_are m x (pos 0) each (≤ℤ_refl (pos 0))).0
-            (nonneg, All-from_every (IsRowMetBy x (pos 0)) (map (row_of m) (judged_rows m)) (every-map (IsRowMetBy x (pos 0)) (row_of m) (judged_rows m) all))
+        (nonneg, All-from_every (IsRowMetBy x (pos 0)) (map (row_of m) (judged_rows m)) (every-map (IsRowMetBy x (pos 0)) (row_of m) (judged_rows m) all))
 
     from : IsMetInUnit m (pos 0) (scale_of x) → All (IsRowMetBy z n) (map R (closed_tags m))
     from h =
@@ -105,10 +105,10 @@ compared_iff_met m x z n R says each nonneg = (to, from)
         let among = every_from_All (IsTagAmong m.size) (closed_tags m) (All-closed_tags m) in
         let rows = ((met_where_rows_are m x (pos 0) each (≤ℤ_refl (pos 0))).1 h).1 in
         let all = every_from_map (IsRowMetBy x (pos 0)) (row_of m) (judged_rows m)
-            (every_from_All (IsRowMetBy x (pos 0)) (map (row_of m) (judged_rows m)) rows) in
+        (every_from_All (IsRowMetBy x (pos 0)) (map (row_of m) (judged_rows m)) rows) in
         let front = every-append_left Q (lower_rows m ++ zero_rows m) (cross_rows m) all in
         let compared = every-append Q (zero_rows m) (cross_rows m) (every-append_right Q (lower_rows m) (zero_rows m) front)
-            (every-append_right Q (lower_rows m ++ zero_rows m) (cross_rows m) all) in
+        (every-append_right Q (lower_rows m ++ zero_rows m) (cross_rows m) all) in
         All-from_every (IsRowMetBy z n) (map R (closed_tags m)) (every-map (IsRowMetBy z n) R (closed_tags m)
         (every_both (IsTagAmong m.size) Q (λ tag. IsRowMetBy z n (R tag)) (λ tag a k. (says tag a).1 k) (closed_tags m) among compared))
 
@@ -121,9 +121,11 @@ compared_with_room m x r n each nonneg = compared_iff_met m x (x ++ r ∷ []) n 
 pub two_rows : (b v n : ℤ) → ((b *ℤ n) ≤ℤ v × (neg_ℤ b *ℤ n) ≤ℤ neg_ℤ v) ↔ (v ≡ n *ℤ b)
 two_rows b v n =
     let turned : neg_ℤ b *ℤ n ≡ neg_ℤ (b *ℤ n) = neg_ℤ-*ℤ b n in
-    let same : b *ℤ n ≡ n *ℤ b = *ℤ_comm b n in
-    (λ h. (let up = h.0 in let down = h.1 in omega (arith, lin, up, down, turned, same)), λ e.
-        (omega (arith, lin, e, turned, same), omega (arith, lin, e, turned, same)))
+    let same : b *ℤ n ≡ n *ℤ b = *ℤ_comm b n in (
+      λ h. (let up = h.0 in let down = h.1 in omega (arith, lin, up, down, turned, same)),
+      λ e.
+          (omega (arith, lin, e, turned, same), omega (arith, lin, e, turned, same)),
+    )
 
 -- ---- points
 
@@ -163,9 +165,9 @@ closed_iff m good neutral reach a b x r n two references = (to, from)
         let each : suc (length x) ≡ m.size = omega (arith, h.one_each, length-append x (r ∷ [])) in
         let signs = (All-parts (λ c. pos 0 ≤ℤ c) x (r ∷ [])).0 h.nonneg in
         let parts = (All-parts Met (map (closed_row_of m) (closed_tags m))
-            (anchor_up m.size good neutral ∷ anchor_down m.size good neutral ∷ reach_up m.size reach ∷ reach_down m.size reach ∷ [])).0 h.meets in
+        (anchor_up m.size good neutral ∷ anchor_down m.size good neutral ∷ reach_up m.size reach ∷ reach_down m.size reach ∷ [])).0 h.meets in
         let four = every_from_All Met (anchor_up m.size good neutral ∷ anchor_down m.size good neutral ∷ reach_up m.size reach ∷ reach_down m.size reach ∷ [])
-            parts.1 in
+        parts.1 in
         let d : ℤ = difference (scale_of x) good neutral in
         let s : ℤ = difference (scale_of x) 1 m.size +ℤ r in
         let an = anchor each d refl in
@@ -175,8 +177,11 @@ closed_iff m good neutral reach a b x r n two references = (to, from)
           meets = (compared_with_room m x r n each signs.0).0 parts.0;
           anchored = (two_rows (pos 100) d n).0 (subst (λ v. (pos 100 *ℤ n) ≤ℤ v) an.0 four.0, subst (λ v. (neg_ℤ (pos 100) *ℤ n) ≤ℤ v) an.1 four.1.0);
           room = All-head (λ c. pos 0 ≤ℤ c) r [] signs.1;
-          reached = (two_rows (pos reach) s n).0 (subst (λ v. (pos reach *ℤ n) ≤ℤ v) re.0 four.1.1.0, subst (λ v. (neg_ℤ (pos reach) *ℤ n) ≤ℤ v)
-              re.1 four.1.1.1.0);
+          reached = (two_rows (pos reach) s n).0 (
+            subst (λ v. (pos reach *ℤ n) ≤ℤ v) re.0 four.1.1.0,
+            subst (λ v. (neg_ℤ (pos reach) *ℤ n) ≤ℤ v)
+                re.1 four.1.1.1.0,
+          );
         }
 
     from : IsClosedScale m good neutral reach (scale_of x) r n → IsFeasible (closed_problem_of m good neutral reach a b) (x ++ r ∷ []) n
@@ -190,8 +195,7 @@ closed_iff m good neutral reach a b x r n two references = (to, from)
         let re = reached each s refl in
         let anchors = (two_rows (pos 100) d n).1 h.anchored in
         let reaches = (two_rows (pos reach) s n).1 h.reached in
-        let four : AllByRecursion Met (anchor_up m.size good neutral ∷ anchor_down m.size good neutral ∷ reach_up m.size reach ∷ reach_down m.size reach ∷ []) =
-            (
+        let four : AllByRecursion Met (anchor_up m.size good neutral ∷ anchor_down m.size good neutral ∷ reach_up m.size reach ∷ reach_down m.size reach ∷ []) = (
           subst (λ v. (pos 100 *ℤ n) ≤ℤ v) (sym an.0) anchors.0,
           (
             subst (λ v. (neg_ℤ (pos 100) *ℤ n) ≤ℤ v) (sym an.1) anchors.1,

@@ -64,10 +64,10 @@ pub anchors_fit : (n good neutral : ℕ) (rows : List Row) → IsPair n good neu
 anchors_fit n good neutral rows in_n all =
     IsRow-both n rows (anchor_up n good neutral) (anchor_down n good neutral) all
     (with_room n (gap_coefs n good neutral) (pos 0) (pos 100) (omega arith) (length-gap_coefs n good neutral in_n) (gap_coefs_in_range n good neutral)
-        zero_in_range (small_in_range (pos 100) (omega arith)))
+    zero_in_range (small_in_range (pos 100) (omega arith)))
     (with_room n (opposite (gap_coefs n good neutral)) (pos 0) (neg_ℤ (pos 100)) (omega arith)
-        (length-opposite (gap_coefs n good neutral) ∙ length-gap_coefs n good neutral in_n) (opposite_in_range n good neutral) zero_in_range
-        (small_in_range (neg_ℤ (pos 100)) (opposite_small 100 (omega arith))))
+    (length-opposite (gap_coefs n good neutral) ∙ length-gap_coefs n good neutral in_n) (opposite_in_range n good neutral) zero_in_range
+    (small_in_range (neg_ℤ (pos 100)) (opposite_small 100 (omega arith))))
 
 pub reaches_fit : (n reach : ℕ) (rows : List Row) → 2 ≤ n → reach ≤ 1000000 → All (IsRow n) rows
     → All (IsRow n) (rows ++ reach_up n reach ∷ reach_down n reach ∷ [])
@@ -75,9 +75,9 @@ reaches_fit n reach rows two most all =
     let in_n : IsPair n 1 n = (omega arith, omega arith, omega arith) in
     IsRow-both n rows (reach_up n reach) (reach_down n reach) all
     (with_room n (gap_coefs n 1 n) (pos 1) (pos reach) two (length-gap_coefs n 1 n in_n) (gap_coefs_in_range n 1 n) (small_in_range (pos 1) (omega arith))
-        (small_in_range (pos reach) (omega arith)))
+    (small_in_range (pos reach) (omega arith)))
     (with_room n (opposite (gap_coefs n 1 n)) (negsuc 0) (neg_ℤ (pos reach)) two (length-opposite (gap_coefs n 1 n) ∙ length-gap_coefs n 1 n in_n)
-        (opposite_in_range n 1 n) (small_in_range (negsuc 0) (omega arith)) (small_in_range (neg_ℤ (pos reach)) (opposite_small reach most)))
+    (opposite_in_range n 1 n) (small_in_range (negsuc 0) (omega arith)) (small_in_range (neg_ℤ (pos reach)) (opposite_small reach most)))
 
 -- ---- the cost
 
@@ -85,14 +85,20 @@ reaches_fit n reach rows two most all =
 copies_keep : (P : ℤ → Type 0) (a b c : ℕ) (x y : ℤ) → P x → P y → All P (replicate a x ++ replicate b y ++ replicate c x)
 copies_keep P a b c x y p q =
     All-append P (replicate a x ++ replicate b y) (replicate c x) (All-append P (replicate a x) (replicate b y) (All-replicate P a x p) (All-replicate P b y q))
-        (All-replicate P c x p)
+    (All-replicate P c x p)
 
 -- one number for each gap
 pub length-outer_coefs : (n p q : ℕ) → IsPair n p q → length (outer_coefs n p q) ≡ n - 1
 length-outer_coefs n p q in_n =
     length-append (replicate (n - q) (pos 1) ++ replicate (q - p) (pos 0)) (replicate (p - 1) (pos 1))
-    ∙ omega (arith, length-append (replicate (n - q) (pos 1)) (replicate (q - p) (pos 0)), length-replicate (n - q) (pos 1), length-replicate (q - p)
-        (pos 0), length-replicate (p - 1) (pos 1))
+    ∙ omega (
+      arith,
+      length-append (replicate (n - q) (pos 1)) (replicate (q - p) (pos 0)),
+      length-replicate (n - q) (pos 1),
+      length-replicate (q - p)
+          (pos 0),
+      length-replicate (p - 1) (pos 1),
+    )
 
 -- a cost for each variable, none below 0
 pub record IsCost (n : ℕ) (cost : List ℤ) : Type 0 where
@@ -115,12 +121,12 @@ IsCost-closed n a b apart ha hb = by_order (cases_lt a b)
     by_order (inl l) =
         let in_n : IsPair n a b = (ha.0, l, hb.1) in
         rw (lt-ltb a b l) (costs_with_room n (gap_coefs n a b) (pos 0) (omega arith) (length-gap_coefs n a b in_n) (gap_coefs_nonneg n a b)
-            (gap_coefs_in_range n a b) (omega (arith, lin)) zero_in_range)
+        (gap_coefs_in_range n a b) (omega (arith, lin)) zero_in_range)
     by_order (inr g) =
         let in_n : IsPair n b a = (hb.0, omega arith, ha.1) in
         let one : IsInRange (pos 1) = small_in_range (pos 1) (omega arith) in
         rw (le-ltb a b g) (costs_with_room n (outer_coefs n b a) (pos 1) (omega arith) (length-outer_coefs n b a in_n)
-            (copies_keep (λ z. pos 0 ≤ℤ z) (n - a) (a - b) (b - 1) (pos 1) (pos 0) (omega (arith, lin)) (omega (arith, lin)))
+        (copies_keep (λ z. pos 0 ≤ℤ z) (n - a) (a - b) (b - 1) (pos 1) (pos 0) (omega (arith, lin)) (omega (arith, lin)))
         (copies_keep IsInRange (n - a) (a - b) (b - 1) (pos 1) (pos 0) one zero_in_range) (omega (arith, lin)) one)
 
 -- the cost of a listed above b, and of b listed above a

@@ -20,8 +20,14 @@ use Rattle.lp_macbeth.specs.Rows.{cross_coefs}
 pub length-gap_coefs : (n p q : ℕ) → IsPair n p q → length (gap_coefs n p q) ≡ n - 1
 length-gap_coefs n p q in_n =
     length-append (replicate (n - q) (pos 0) ++ replicate (q - p) (pos 1)) (replicate (p - 1) (pos 0))
-    ∙ omega (arith, length-append (replicate (n - q) (pos 0)) (replicate (q - p) (pos 1)), length-replicate (n - q) (pos 0), length-replicate (q - p)
-        (pos 1), length-replicate (p - 1) (pos 0))
+    ∙ omega (
+      arith,
+      length-append (replicate (n - q) (pos 0)) (replicate (q - p) (pos 1)),
+      length-replicate (n - q) (pos 0),
+      length-replicate (q - p)
+          (pos 1),
+      length-replicate (p - 1) (pos 0),
+    )
 
 pub length-opposite : (xs : List ℤ) → length (opposite xs) ≡ length xs
 length-opposite xs = length-scale (negsuc 0) xs
@@ -43,8 +49,8 @@ pub opposite-gap_coefs : (n p q : ℕ) → opposite (gap_coefs n p q) ≡ replic
 opposite-gap_coefs n p q =
     scale-append (negsuc 0) (replicate (n - q) (pos 0) ++ replicate (q - p) (pos 1)) (replicate (p - 1) (pos 0))
     ∙ ap₂ (λ xs ys. xs ++ ys) (scale-append (negsuc 0) (replicate (n - q) (pos 0)) (replicate (q - p) (pos 1))
-        ∙ ap₂ (λ xs ys. xs ++ ys) (scale-replicate (negsuc 0) (pos 0) (n - q)) (scale-replicate (negsuc 0) (pos 1) (q - p)))
-        (scale-replicate (negsuc 0) (pos 0) (p - 1))
+    ∙ ap₂ (λ xs ys. xs ++ ys) (scale-replicate (negsuc 0) (pos 0) (n - q)) (scale-replicate (negsuc 0) (pos 1) (q - p)))
+    (scale-replicate (negsuc 0) (pos 0) (p - 1))
 
 -- three pieces added one after the other
 pub pieces : {A : Type 0} (old one two three xs ys zs : List A) → one ≡ old ++ xs → two ≡ one ++ ys → three ≡ two ++ zs → three ≡ old ++ (xs ++ ys ++ zs)
@@ -93,7 +99,7 @@ ones_at a b c k = ap (λ l. get_or l k (pos 0)) (append_assoc (replicate a (pos 
         let high : nat_lt k (a + b) ≡ false = le-ltb k (a + b) (omega arith) in
         let split : b + (j - b) ≡ j = omega arith in
         ap (λ i. get_or (replicate b (pos 1) ++ replicate c (pos 0)) i (pos 0)) (sym split) ∙ get_or-past_front b (pos 1) (replicate c (pos 0)) (j - b) (pos 0)
-            ∙ get_or-zeros c (j - b) ∙ sym (ap₂ (λ s t. cond (s && t) (pos 1) (pos 0)) low high)
+        ∙ get_or-zeros c (j - b) ∙ sym (ap₂ (λ s t. cond (s && t) (pos 1) (pos 0)) low high)
 
     by_place : (k < a) ⊎ (a ≤ k) → get_or (replicate a (pos 0) ++ (replicate b (pos 1) ++ replicate c (pos 0))) k (pos 0) ≡ cond
         (nat_le a k && nat_lt k (a + b)) (pos 1) (pos 0)
@@ -142,7 +148,7 @@ pub cross_coef : (n p q x y k : ℕ) (a b : Bool) → IsPair n p q → IsPair n 
     → coef ≡ get_or (gap_coefs n p q) k (pos 0) -ℤ get_or (gap_coefs n x y) k (pos 0)
 cross_coef n p q x y k a b left right first second coef is =
     is ∙ ap₂ (λ u v. u -ℤ v) (ap (λ t. cond t (pos 1) (pos 0)) first ∙ sym (get_or-gap_coefs n p q k left))
-        (ap (λ t. cond t (pos 1) (pos 0)) second ∙ sym (get_or-gap_coefs n x y k right))
+    (ap (λ t. cond t (pos 1) (pos 0)) second ∙ sym (get_or-gap_coefs n x y k right))
 
 -- a difference of two bits
 pub same_bits : (a b : Bool) → a ≡ b → pos 0 ≡ cond a (pos 1) (pos 0) -ℤ cond b (pos 1) (pos 0)

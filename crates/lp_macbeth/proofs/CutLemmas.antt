@@ -78,7 +78,7 @@ extended_before m y u x t d e first second h =
     let both = before-append (dot P.cost y ∷ y) (dot P.cost x ∷ x) u t d e (ap suc (first ∙ sym second)) h in
     let F : ℤ → ℤ → Type 0 = λ a b. LexLess (over (a ∷ (y ++ u)) d) (over (b ∷ (x ++ t)) e) in
     subst (λ a. F a (dot (threshold_problem_of m).cost (x ++ t))) (sym (cost_of_parts m y u first))
-        (subst (F (dot P.cost y)) (sym (cost_of_parts m x t second)) both)
+    (subst (F (dot P.cost y)) (sym (cost_of_parts m x t second)) both)
 
 -- the gaps of the least point
 pub least_cut : (m : Judgements) (z : List ℤ) (n : ℤ) → IsMatrix m → 2 ≤ m.size → IsLeast (threshold_problem_of m) z n
@@ -92,7 +92,7 @@ least_cut m z n matrix two h =
           let longer = extended_before m y (cuts m (scale_of y) d) (take k z) (drop k z) d n other.one_each point.one_each before in
           h.none_before (y ++ cuts m (scale_of y) d) d (feasible_extended m y d matrix two other)
           (subst (λ v. LexLess (cost_and_numbers (threshold_problem_of m) (y ++ cuts m (scale_of y) d) d) (cost_and_numbers (threshold_problem_of m) v n))
-              (take-append-drop k z) longer);
+          (take-append-drop k z) longer);
     }
 
 pub least_scale : (m : Judgements) (z : List ℤ) (n : ℤ) → IsMatrix m → 2 ≤ m.size → IsLeast (threshold_problem_of m) z n

@@ -55,8 +55,8 @@ dot-gap_coefs n xs p q each in_n =
     let below : value_at (scale_of xs) q ≡ int_sum (take (suc (length xs) - q) xs) = value_at-scale_of xs q (omega arith) (omega arith) in
     let parts : (n - q) + (q - p) ≡ n - p = omega arith in
     let split : int_sum (take (n - p) xs) ≡ int_sum (take (n - q) xs) +ℤ int_sum (take (q - p) (drop (n - q) xs)) =
-        subst (λ k. int_sum (take k xs) ≡ int_sum (take (n - q) xs) +ℤ int_sum (take (q - p) (drop (n - q) xs))) parts
-        (int_sum-take_parts (n - q) (q - p) xs) in
+    subst (λ k. int_sum (take k xs) ≡ int_sum (take (n - q) xs) +ℤ int_sum (take (q - p) (drop (n - q) xs))) parts
+    (int_sum-take_parts (n - q) (q - p) xs) in
     let high : value_at (scale_of xs) p ≡ int_sum (take (n - p) xs) = above ∙ ap (λ k. int_sum (take (k - p) xs)) each in
     let low : value_at (scale_of xs) q ≡ int_sum (take (n - q) xs) = below ∙ ap (λ k. int_sum (take (k - q) xs)) each in
     omega (arith, lin, high, low, split, dot-between (n - q) (q - p) (p - 1) xs)

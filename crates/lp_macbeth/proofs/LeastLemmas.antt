@@ -24,7 +24,7 @@ smaller_iff_before m x n y k two first second =
     let carried = order_carries x n y k (omega (arith, first)) (first ∙ sym second) in
     let F : ℤ → ℤ → Type 0 = λ a b. LexLess (over (a ∷ x) n) (over (b ∷ y) k) ↔ IsSmaller (scale_of x) n (scale_of y) k in
     subst (λ a. F a (dot (problem_of m).cost y)) (sym (cost_is_sum (m.size - 1) x first))
-        (subst (F (int_sum x)) (sym (cost_is_sum (m.size - 1) y second)) carried)
+    (subst (F (int_sum x)) (sym (cost_is_sum (m.size - 1) y second)) carried)
 
 -- the least point is the least scale
 pub least_iff_least : (m : Judgements) (x : List ℤ) (n : ℤ) → 2 ≤ m.size → IsLeast (problem_of m) x n ↔ IsLeastScale m (scale_of x) n

@@ -66,29 +66,29 @@ met_tag : (m : Judgements) (x t : List ℤ) (n : ℤ) (tag : ThresholdTag) → s
 met_tag m x t n (At p q) each five of =
     let lo : ℕ = (range_at m p q).lo in
     let d = dot-both (gap_coefs m.size p q) (threshold (lo - 1) (negsuc 0)) x t _ _ (length-gap_coefs m.size p q of.0 ∙ omega (arith, each))
-        (dot-gap_coefs m.size x p q each of.0) (dot-threshold (lo - 1) (negsuc 0) t five ∙ minus_one-*ℤ (threshold_at t (lo - 1))) in
+    (dot-gap_coefs m.size x p q each of.0) (dot-threshold (lo - 1) (negsuc 0) t five ∙ minus_one-*ℤ (threshold_at t (lo - 1))) in
     let b = *ℤ_comm (pos lo) n in
     (λ h. omega (arith, lin, d, b, h), λ h. omega (arith, lin, d, b, h))
 met_tag m x t n (Zero p q) each five of =
     let d = dot-both (opposite (gap_coefs m.size p q)) (threshold 0 (pos 0)) x t _ _
-        (length-opposite (gap_coefs m.size p q) ∙ length-gap_coefs m.size p q of ∙ omega (arith, each))
-        (dot-opposite (gap_coefs m.size p q) x ∙ ap neg_ℤ (dot-gap_coefs m.size x p q each of)) (dot-threshold 0 (pos 0) t five) in
+    (length-opposite (gap_coefs m.size p q) ∙ length-gap_coefs m.size p q of ∙ omega (arith, each))
+    (dot-opposite (gap_coefs m.size p q) x ∙ ap neg_ℤ (dot-gap_coefs m.size x p q each of)) (dot-threshold 0 (pos 0) t five) in
     let b : pos 0 *ℤ n ≡ pos 0 = zero-*ℤ n in
     (λ h. omega (arith, lin, d, b, h), λ h. omega (arith, lin, d, b, h))
 met_tag m x t n (Below p q) each five of =
     let hi : ℕ = (range_at m p q).hi in
     let d = dot-both (opposite (gap_coefs m.size p q)) (threshold hi (pos 1)) x t _ _
-        (length-opposite (gap_coefs m.size p q) ∙ length-gap_coefs m.size p q of.0 ∙ omega (arith, each))
-        (dot-opposite (gap_coefs m.size p q) x ∙ ap neg_ℤ (dot-gap_coefs m.size x p q each of.0))
-        (dot-threshold hi (pos 1) t five ∙ one-*ℤ (threshold_at t hi)) in
+    (length-opposite (gap_coefs m.size p q) ∙ length-gap_coefs m.size p q of.0 ∙ omega (arith, each))
+    (dot-opposite (gap_coefs m.size p q) x ∙ ap neg_ℤ (dot-gap_coefs m.size x p q each of.0))
+    (dot-threshold hi (pos 1) t five ∙ one-*ℤ (threshold_at t hi)) in
     let b : neg_ℤ (pos hi) *ℤ n ≡ neg_ℤ (n *ℤ pos hi) = neg_ℤ-*ℤ (pos hi) n ∙ ap neg_ℤ (*ℤ_comm (pos hi) n) in
     (λ h. omega (arith, lin, d, b, h), λ h. omega (arith, lin, d, b, h))
 met_tag m x t n (Step k) each five of =
     let d = dot-both (replicate (m.size - 1) (pos 0)) (threshold_step k) x t _ _ (length-replicate (m.size - 1) (pos 0) ∙ omega (arith, each))
-        (dot_comm (replicate (m.size - 1) (pos 0)) x ∙ dot-zeros x (m.size - 1))
+    (dot_comm (replicate (m.size - 1) (pos 0)) x ∙ dot-zeros x (m.size - 1))
     (dot-add (threshold k (pos 1)) (threshold (k - 1) (negsuc 0)) t
-        ∙ ap₂ (λ u v. u +ℤ v) (dot-threshold k (pos 1) t five ∙ one-*ℤ (threshold_at t k))
-        (dot-threshold (k - 1) (negsuc 0) t five ∙ minus_one-*ℤ (threshold_at t (k - 1)))) in
+    ∙ ap₂ (λ u v. u +ℤ v) (dot-threshold k (pos 1) t five ∙ one-*ℤ (threshold_at t k))
+    (dot-threshold (k - 1) (negsuc 0) t five ∙ minus_one-*ℤ (threshold_at t (k - 1)))) in
     let b : pos 0 *ℤ n ≡ pos 0 = zero-*ℤ n in
     (λ h. omega (arith, lin, d, b, h), λ h. omega (arith, lin, d, b, h))
 
@@ -137,7 +137,7 @@ separates_iff m w t n = (to, from)
         let at = (every_tag m.size P (λ pair. At pair.0 pair.1) (starts m)).0 (every-append_left P (at_rows_of m ps) (equal_rows_of m ps) two) in
         let equal = (every_tag m.size P (λ pair. Zero pair.0 pair.1) (equals m)).0 (every-append_right P (at_rows_of m ps) (equal_rows_of m ps) two) in
         let below = (every_tag m.size P (λ pair. Below pair.0 pair.1) (ends m)).0
-            (every-append_right P (at_rows_of m ps ++ equal_rows_of m ps) (below_rows_of m ps) front) in
+        (every-append_right P (at_rows_of m ps ++ equal_rows_of m ps) (below_rows_of m ps) front) in
         let steps = every-append_right P (at_rows_of m ps ++ equal_rows_of m ps ++ below_rows_of m ps) step_rows h in
         record {
           at = λ p q in_n low. at p q in_n (at_test (range_at m p q).lo low);
@@ -153,12 +153,12 @@ separates_iff m w t n = (to, from)
         let at = (every_tag m.size P (λ pair. At pair.0 pair.1) (starts m)).1 (λ p q in_n e. h.at p q in_n (starts_from (range_at m p q).lo e)) in
         let equal = (every_tag m.size P (λ pair. Zero pair.0 pair.1) (equals m)).1 (λ p q in_n e. h.equal p q in_n (equal_from (range_at m p q).hi e)) in
         let below = (every_tag m.size P (λ pair. Below pair.0 pair.1) (ends m)).1
-            (λ p q in_n e. (let r = ends_from (range_at m p q).hi e in h.below p q in_n r.0 r.1)) in
+        (λ p q in_n e. (let r = ends_from (range_at m p q).hi e in h.below p q in_n r.0 r.1)) in
         let steps : AllByRecursion P step_rows = every-map P (λ k. Step k) (range_with_len 2 4)
-            (every-range (λ k. P (Step k)) 2 4 (λ k low high. h.step k low (omega arith))) in
+        (every-range (λ k. P (Step k)) 2 4 (λ k low high. h.step k low (omega arith))) in
         every-append P (at_rows_of m ps ++ equal_rows_of m ps ++ below_rows_of m ps) step_rows
         (every-append P (at_rows_of m ps ++ equal_rows_of m ps) (below_rows_of m ps) (every-append P (at_rows_of m ps) (equal_rows_of m ps) at equal) below)
-            steps
+        steps
 
 -- the rows at gaps and thresholds
 pub met_iff_separates : (m : Judgements) (x t : List ℤ) (n : ℤ) → suc (length x) ≡ m.size → length t ≡ 5
@@ -167,9 +167,9 @@ met_iff_separates m x t n each five =
     let P : ThresholdTag → Type 0 = λ tag. IsRowMetBy (x ++ t) n (threshold_row_of m tag) in
     let of : AllByRecursion (IsThresholdTagOf m) (threshold_rows m) = every_from_All (IsThresholdTagOf m) (threshold_rows m) (All-threshold_rows m) in
     let there = every_both (IsThresholdTagOf m) P (TagHolds m (scale_of x) t n) (λ tag among met. (met_tag m x t n tag each five among).0 met)
-        (threshold_rows m) of in
+    (threshold_rows m) of in
     let back = every_both (IsThresholdTagOf m) (TagHolds m (scale_of x) t n) P (λ tag among met. (met_tag m x t n tag each five among).1 met) (threshold_rows m)
-        of in (
+    of in (
       λ h. (separates_iff m (scale_of x) t n).0 (there (every_from_map (IsRowMetBy (x ++ t) n) (threshold_row_of m) (threshold_rows m)
           (every_from_All (IsRowMetBy (x ++ t) n) (map (threshold_row_of m) (threshold_rows m)) h))),
       λ h. All-from_every (IsRowMetBy (x ++ t) n) (map (threshold_row_of m) (threshold_rows m))

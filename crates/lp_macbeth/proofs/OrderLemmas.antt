@@ -53,7 +53,7 @@ climbs-row_step d e a b (y ∷ []) (x ∷ u ∷ us) h = absurd (omega arith)
 climbs-row_step d e a b (y ∷ v ∷ vs) (x ∷ []) h = absurd (omega arith)
 climbs-row_step d e a b (y ∷ v ∷ vs) (x ∷ u ∷ us) h =
     let next : d *ℤ (a +ℤ y) -ℤ e *ℤ (b +ℤ x) ≡ d *ℤ a -ℤ e *ℤ b +ℤ (d *ℤ y -ℤ e *ℤ x) =
-        ring6 (λ d e a b y x. d ⊗ (a ⊕ y) ⊖ e ⊗ (b ⊕ x) ≗ d ⊗ a ⊖ e ⊗ b ⊕ (d ⊗ y ⊖ e ⊗ x)) refl d e a b y x in
+    ring6 (λ d e a b y x. d ⊗ (a ⊕ y) ⊖ e ⊗ (b ⊕ x) ≗ d ⊗ a ⊖ e ⊗ b ⊕ (d ⊗ y ⊖ e ⊗ x)) refl d e a b y x in
     ap₂ (λ z zs. z ∷ zs) next (climbs-row_step d e (a +ℤ y) (b +ℤ x) (v ∷ vs) (u ∷ us) (omega arith) ∙ ap (λ z. climbs z (row_step d e (v ∷ vs) (u ∷ us))) next)
 
 -- numbers whose sum is 0: their first number other than 0 is the first of the sums from the front, the whole sum left out
@@ -81,7 +81,7 @@ order_key-scale_of x xs =
 int_sum-row_step : (d e : ℤ) (ys xs : List ℤ) → int_sum (row_step d e ys xs) ≡ d *ℤ int_sum ys -ℤ e *ℤ int_sum xs
 int_sum-row_step d e ys xs =
     ap int_sum (row_step_lem d e ys xs) ∙ int_sum-add (scale d ys) (scale (neg_ℤ e) xs)
-        ∙ ap₂ (λ a b. a +ℤ b) (int_sum-scale d ys) (int_sum-scale (neg_ℤ e) xs ∙ neg_ℤ-*ℤ e (int_sum xs))
+    ∙ ap₂ (λ a b. a +ℤ b) (int_sum-scale d ys) (int_sum-scale (neg_ℤ e) xs ∙ neg_ℤ-*ℤ e (int_sum xs))
 
 -- as many heights between
 length-climbs : (a b : ℤ) (xs ys : List ℤ) → length xs ≡ length ys → length (climbs a xs) ≡ length (climbs b ys)
@@ -114,16 +114,16 @@ order_carries (x ∷ xs) d (y ∷ ys) e long same =
     climbs-row_step d e (pos 0) (pos 0) (y ∷ ys) (x ∷ xs) (sym same) ∙ ap (λ a. climbs a (row_step d e (y ∷ ys) (x ∷ xs))) zero in
     let points = LexLess-over (sx ∷ x ∷ xs) (sy ∷ y ∷ ys) d e (omega (arith, same)) in
     let scales = LexLess-over (sx ∷ climbs (pos 0) (x ∷ xs)) (sy ∷ climbs (pos 0) (y ∷ ys)) d e
-        (ap suc (length-climbs (pos 0) (pos 0) (x ∷ xs) (y ∷ ys) same)) in
+    (ap suc (length-climbs (pos 0) (pos 0) (x ∷ xs) (y ∷ ys) same)) in
     let signs = sum_first_sign (d *ℤ sy -ℤ e *ℤ sx) (row_step d e (y ∷ ys) (x ∷ xs)) head in
     let key : List ℤ → List ℤ → Type 0 = λ a b. LexLess (over a d) (over b e) in (
       λ h.
           let positive = signs.0 (points.0 h) in
           let less = scales.1 (subst (λ l. IsLexPositive ((d *ℤ sy -ℤ e *ℤ sx) ∷ l)) (sym between) positive) in
           subst (λ a. key a (order_key (scale_of (y ∷ ys)))) (sym (order_key-scale_of x xs))
-              (subst (key (sx ∷ climbs (pos 0) (x ∷ xs))) (sym (order_key-scale_of y ys)) less),
+          (subst (key (sx ∷ climbs (pos 0) (x ∷ xs))) (sym (order_key-scale_of y ys)) less),
       λ h.
           let less = subst (key (sx ∷ climbs (pos 0) (x ∷ xs))) (order_key-scale_of y ys)
-              (subst (λ a. key a (order_key (scale_of (y ∷ ys)))) (order_key-scale_of x xs) h) in
+          (subst (λ a. key a (order_key (scale_of (y ∷ ys)))) (order_key-scale_of x xs) h) in
           points.1 (signs.1 (subst (λ l. IsLexPositive ((d *ℤ sy -ℤ e *ℤ sx) ∷ l)) between (scales.0 less))),
     )

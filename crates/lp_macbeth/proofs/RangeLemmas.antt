@@ -42,7 +42,7 @@ cross_coefs_in_range n p q x y left right = λ k d below.
     let is : get_or (cross_coefs n p q x y) k d ≡ get_or (cross_coefs n p q x y) k (pos 0) = get_or_default (cross_coefs n p q x y) k d (pos 0) below in
     subst IsInRange (sym (is ∙ get_or-cross_coefs n p q x y k))
     (rw (get_or-gap_coefs n p q k left, get_or-gap_coefs n x y k right)
-        (bits_in_range (nat_le (n - q) k && nat_lt k (n - p)) (nat_le (n - y) k && nat_lt k (n - x))))
+    (bits_in_range (nat_le (n - q) k && nat_lt k (n - p)) (nat_le (n - y) k && nat_lt k (n - x))))
 
 -- the three kinds of rows
 pub IsRow-difference : (n p q bound : ℕ) → IsPair n p q → bound ≤ 255 → IsRow (n - 1) (record { coefs = gap_coefs n p q; bound = pos bound })

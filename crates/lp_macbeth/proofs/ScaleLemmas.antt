@@ -45,14 +45,14 @@ met_row m x n (Lower p q) each among =
     (λ h. omega (arith, lin, d, b, h), λ h. omega (arith, lin, d, b, h))
 met_row m x n (Zero p q) each among =
     let d : dot (opposite (gap_coefs m.size p q)) x ≡ neg_ℤ (difference (scale_of x) p q) =
-        dot-opposite (gap_coefs m.size p q) x ∙ ap neg_ℤ (dot-gap_coefs m.size x p q each among) in
+    dot-opposite (gap_coefs m.size p q) x ∙ ap neg_ℤ (dot-gap_coefs m.size x p q each among) in
     let b : pos 0 *ℤ n ≡ pos 0 = zero-*ℤ n in
     (λ h. omega (arith, lin, d, b, h), λ h. omega (arith, lin, d, b, h))
 met_row m x n (Cross p q u v) each among =
     let d : dot (add (gap_coefs m.size p q) (opposite (gap_coefs m.size u v))) x ≡ difference (scale_of x) p q -ℤ difference (scale_of x) u v =
     dot-add (gap_coefs m.size p q) (opposite (gap_coefs m.size u v)) x
-        ∙ ap₂ (λ y z. y +ℤ z) (dot-gap_coefs m.size x p q each among.0)
-        (dot-opposite (gap_coefs m.size u v) x ∙ ap neg_ℤ (dot-gap_coefs m.size x u v each among.1)) in
+    ∙ ap₂ (λ y z. y +ℤ z) (dot-gap_coefs m.size x p q each among.0)
+    (dot-opposite (gap_coefs m.size u v) x ∙ ap neg_ℤ (dot-gap_coefs m.size x u v each among.1)) in
     let b = *ℤ_comm (pos (range_at m p q).lo -ℤ pos (range_at m u v).hi) n in (
       λ h. subst (λ y. y ≤ℤ (difference (scale_of x) p q -ℤ difference (scale_of x) u v)) b
           (subst (λ z. ((pos (range_at m p q).lo -ℤ pos (range_at m u v).hi) *ℤ n) ≤ℤ z) d h),
@@ -74,7 +74,7 @@ gap_coefs_nonneg n p q =
     let P : ℤ → Type 0 = λ c. pos 0 ≤ℤ c in
     All-append P (replicate (n - q) (pos 0) ++ replicate (q - p) (pos 1)) (replicate (p - 1) (pos 0))
     (All-append P (replicate (n - q) (pos 0)) (replicate (q - p) (pos 1)) (All-replicate P (n - q) (pos 0) zero) (All-replicate P (q - p) (pos 1) one))
-        (All-replicate P (p - 1) (pos 0) zero)
+    (All-replicate P (p - 1) (pos 0) zero)
 
 -- so no element stands below a later one
 pub scale_falls : (n : ℕ) (x : List ℤ) (p q : ℕ) → suc (length x) ≡ n → IsPair n p q → AreNonNegative x → pos 0 ≤ℤ difference (scale_of x) p q
@@ -107,7 +107,7 @@ judged_from_met : (m : Judgements) (x : List ℤ) (n : ℤ) → suc (length x) �
     → AllByRecursion (RowHolds m (scale_of x) n) (judged_rows m)
 judged_from_met m x n each h =
     every_both (IsTagAmong m.size) (λ tag. IsRowMetBy x n (row_of m tag)) (RowHolds m (scale_of x) n) (λ tag among met. (met_row m x n tag each among).0 met)
-        (judged_rows m)
+    (judged_rows m)
     (every_from_All (IsTagAmong m.size) (judged_rows m) (All-judged_rows m))
     (every_from_map (IsRowMetBy x n) (row_of m) (judged_rows m) (every_from_All (IsRowMetBy x n) (map (row_of m) (judged_rows m)) h))
 
@@ -116,7 +116,7 @@ met_from_judged : (m : Judgements) (x : List ℤ) (n : ℤ) → suc (length x) �
 met_from_judged m x n each h =
     All-from_every (IsRowMetBy x n) (map (row_of m) (judged_rows m)) (every-map (IsRowMetBy x n) (row_of m) (judged_rows m)
     (every_both (IsTagAmong m.size) (RowHolds m (scale_of x) n) (λ tag. IsRowMetBy x n (row_of m tag))
-        (λ tag among holds. (met_row m x n tag each among).1 holds) (judged_rows m)
+    (λ tag among holds. (met_row m x n tag each among).1 holds) (judged_rows m)
     (every_from_All (IsTagAmong m.size) (judged_rows m) (All-judged_rows m)) h))
 
 -- the rows met at gaps of at least 0, and the judgements met by their scale, in any unit of at least 0
@@ -128,7 +128,7 @@ met_where_rows_are m x n each unit = (to, from)
     to h =
         let Holds : Tag → Type 0 = RowHolds m (scale_of x) n in
         let order : AllByRecursion Holds (order_rows m) =
-            every-map Holds (λ p. Order p) (range_with_len 1 (m.size - 1)) (every-range (λ p. Holds (Order p)) 1 (m.size - 1)
+        every-map Holds (λ p. Order p) (range_with_len 1 (m.size - 1)) (every-range (λ p. Holds (Order p)) 1 (m.size - 1)
         (λ p low high. scale_falls m.size x p (p + 1) each (low, omega arith, omega arith) h.0)) in
         met_from_rows m (scale_of x) n (every-append Holds (judged_rows m) (order_rows m) (judged_from_met m x n each h.1) order)
 

@@ -24,13 +24,13 @@ pub lower_rows_of-append : (m : Judgements) (ps qs : List (ℕ × ℕ)) → lowe
 lower_rows_of-append m ps qs =
     ap (map (λ (pair : ℕ × ℕ). Lower pair.0 pair.1)) (filter-append (λ (pair : ℕ × ℕ). nat_le 1 (range_at m pair.0 pair.1).lo) ps qs)
     ∙ map-append (λ (pair : ℕ × ℕ). Lower pair.0 pair.1) (filter (λ (pair : ℕ × ℕ). nat_le 1 (range_at m pair.0 pair.1).lo) ps)
-        (filter (λ (pair : ℕ × ℕ). nat_le 1 (range_at m pair.0 pair.1).lo) qs)
+    (filter (λ (pair : ℕ × ℕ). nat_le 1 (range_at m pair.0 pair.1).lo) qs)
 
 pub zero_rows_of-append : (m : Judgements) (ps qs : List (ℕ × ℕ)) → zero_rows_of m (ps ++ qs) ≡ zero_rows_of m ps ++ zero_rows_of m qs
 zero_rows_of-append m ps qs =
     ap (map (λ (pair : ℕ × ℕ). Zero pair.0 pair.1)) (filter-append (λ (pair : ℕ × ℕ). (range_at m pair.0 pair.1).hi == 0) ps qs)
     ∙ map-append (λ (pair : ℕ × ℕ). Zero pair.0 pair.1) (filter (λ (pair : ℕ × ℕ). (range_at m pair.0 pair.1).hi == 0) ps)
-        (filter (λ (pair : ℕ × ℕ). (range_at m pair.0 pair.1).hi == 0) qs)
+    (filter (λ (pair : ℕ × ℕ). (range_at m pair.0 pair.1).hi == 0) qs)
 
 pub cross_rows_of-append : (m : Judgements) (rights ps qs : List (ℕ × ℕ))
     → cross_rows_of m (ps ++ qs) rights ≡ cross_rows_of m ps rights ++ cross_rows_of m qs rights
@@ -52,13 +52,13 @@ every-judged_rows : (m : Judgements) → AllByRecursion (IsTagAmong m.size) (jud
 every-judged_rows m =
     let Among : Tag → Type 0 = IsTagAmong m.size in
     let lower : AllByRecursion Among (lower_rows_of m (pairs m.size)) =
-        every-map Among (λ (pair : ℕ × ℕ). Lower pair.0 pair.1) _ (some_pairs m.size (λ pair. Among (Lower pair.0 pair.1)) _ (λ p q h. h)) in
+    every-map Among (λ (pair : ℕ × ℕ). Lower pair.0 pair.1) _ (some_pairs m.size (λ pair. Among (Lower pair.0 pair.1)) _ (λ p q h. h)) in
     let zero : AllByRecursion Among (zero_rows_of m (pairs m.size)) =
-        every-map Among (λ (pair : ℕ × ℕ). Zero pair.0 pair.1) _ (some_pairs m.size (λ pair. Among (Zero pair.0 pair.1)) _ (λ p q h. h)) in
+    every-map Among (λ (pair : ℕ × ℕ). Zero pair.0 pair.1) _ (some_pairs m.size (λ pair. Among (Zero pair.0 pair.1)) _ (λ p q h. h)) in
     let cross : AllByRecursion Among (cross_rows_of m (pairs m.size) (pairs m.size)) =
     every-flat_map Among _ (pairs m.size) (every-pairs m.size (λ p q. AllByRecursion Among (cross_rows_under m (p, q) (pairs m.size)))
     (λ p q h. every-map Among (λ (right : ℕ × ℕ). Cross p q right.0 right.1) _
-        (some_pairs m.size (λ right. Among (Cross p q right.0 right.1)) _ (λ x y k. (h, k))))) in
+    (some_pairs m.size (λ right. Among (Cross p q right.0 right.1)) _ (λ x y k. (h, k))))) in
     every-append Among _ _ (every-append Among _ _ lower zero) cross
 
 every-order_rows : (m : Judgements) → AllByRecursion (IsTagAmong m.size) (order_rows m)
@@ -73,7 +73,7 @@ every-closed_tags m =
     let cross = cross_rows_of m (pairs m.size) (pairs m.size) in
     let all = every-judged_rows m in
     every-append Among zero cross (every-append_right Among lower zero (every-append_left Among (lower ++ zero) cross all))
-        (every-append_right Among (lower ++ zero) cross all)
+    (every-append_right Among (lower ++ zero) cross all)
 
 pub All-closed_tags : (m : Judgements) → All (IsTagAmong m.size) (closed_tags m)
 All-closed_tags m = All-from_every (IsTagAmong m.size) (closed_tags m) (every-closed_tags m)
@@ -92,7 +92,7 @@ pub rights_are : (m : Judgements) (ps : List (ℕ × ℕ)) (lists : List (List (
     → lists ≡ map (λ (i : ℕ). under m ps i) (numbers_from 0 7) → category < 7 → rights ≡ get_or lists category rights → rights ≡ under m ps category
 rights_are m ps lists category rights made below is =
     is ∙ ap (λ l. get_or l category rights) made ∙ get_or-map (λ (i : ℕ). under m ps i) (numbers_from 0 7) category 0 rights
-        (omega (arith, length-numbers_from 0 7))
+    (omega (arith, length-numbers_from 0 7))
     ∙ ap (λ i. under m ps i) (get_or-numbers_from 0 7 category 0 below ∙ zero-add category)
 
 -- the rows of the next pair

@@ -80,7 +80,7 @@ met_from_separates m w t n matrix nonneg falls h = record {
         let e : j + (i - 1 - j) ≡ i - 1 = omega arith in
         let between = subst (λ k. threshold_at t j ≤ℤ threshold_at t k) e (rising m w t n h j (i - 1 - j) (omega arith) (omega arith)) in
         cross_from n (difference w p q) (difference w x y) (threshold_at t (i - 1)) (threshold_at t j) i j (h.at p q left (omega arith))
-            (h.below x y right (omega arith) (omega arith)) between
+        (h.below x y right (omega arith) (omega arith)) between
     cross p q x y left right l (inr none) =
         let i : ℕ = (range_at m p q).lo in
         let j : ℕ = (range_at m x y).hi in
@@ -88,7 +88,7 @@ met_from_separates m w t n matrix nonneg falls h = record {
         let zero : n *ℤ pos j ≡ pos 0 = ap (λ k. n *ℤ pos k) e ∙ *ℤ-zero n in
         let low : difference w x y ≤ℤ (n *ℤ pos j +ℤ pos 0) = (let d = h.equal x y right e in omega (arith, lin, d, zero)) in
         cross_from n (difference w p q) (difference w x y) (threshold_at t (i - 1)) (pos 0) i j (h.at p q left (omega arith)) low
-            (threshold_nonneg t nonneg (i - 1))
+        (threshold_nonneg t nonneg (i - 1))
 
 -- ---- to thresholds
 
@@ -188,7 +188,7 @@ level_above m w n h p q in_n e =
     let f : ℕ × ℕ → ℤ = λ (pair : ℕ × ℕ). difference w pair.0 pair.1 -ℤ n *ℤ pos h in
     let all = every_from_map (λ z. z ≤ℤ level m w n h) f (filter (ends_at m h) (pairs m.size)) (top_above (map f (filter (ends_at m h) (pairs m.size)))) in
     every_at_pair m.size (λ p q. ends_at m h (p, q) ≡ true → f (p, q) ≤ℤ level m w n h)
-        (every_from_filter (λ pair. f pair ≤ℤ level m w n h) (ends_at m h) (pairs m.size) all) p q in_n (test_same (range_at m p q).hi h e)
+    (every_from_filter (λ pair. f pair ≤ℤ level m w n h) (ends_at m h) (pairs m.size) all) p q in_n (test_same (range_at m p q).hi h e)
 
 -- a level is at most what 0 and those of its pairs are at most
 level_least : (m : Judgements) (w : List ℤ) (n : ℤ) (h : ℕ) (b : ℤ) → pos 0 ≤ℤ b
@@ -197,7 +197,7 @@ level_least m w n h b nonneg each =
     let f : ℕ × ℕ → ℤ = λ (pair : ℕ × ℕ). difference w pair.0 pair.1 -ℤ n *ℤ pos h in
     top_least (map f (filter (ends_at m h) (pairs m.size))) b nonneg (every-map (λ z. z ≤ℤ b) f (filter (ends_at m h) (pairs m.size))
     (every-filter (λ pair. f pair ≤ℤ b) (ends_at m h) (pairs m.size)
-        (every-pairs m.size (λ x y. ends_at m h (x, y) ≡ true → f (x, y) ≤ℤ b) (λ x y in_n e. each x y in_n (same_test (range_at m x y).hi h e)))))
+    (every-pairs m.size (λ x y. ends_at m h (x, y) ≡ true → f (x, y) ≤ℤ b) (λ x y in_n e. each x y in_n (same_test (range_at m x y).hi h e)))))
 
 -- a pair of least category lo is at least as far over it as the thresholds below
 cut_below : (m : Judgements) (w : List ℤ) (n : ℤ) → IsMetInUnit m n w → (p q : ℕ) → IsPair m.size p q → (k : ℕ) → k < (range_at m p q).lo
@@ -210,7 +210,7 @@ cut_below m w n met p q in_n (suc k) h =
     let over : level m w n (suc k) ≤ℤ b = level_least m w n (suc k) b (omega (arith, lin, bound)) (λ x y other e.
     let above = met.cross p q x y in_n other (subst (λ j. j < (range_at m p q).lo) (sym e) h) in
     let split : n *ℤ (pos (range_at m p q).lo -ℤ pos (range_at m x y).hi) ≡ n *ℤ pos (range_at m p q).lo -ℤ n *ℤ pos (range_at m x y).hi =
-        ring3 (λ n i j. n ⊗ (i ⊖ j) ≗ n ⊗ i ⊖ n ⊗ j) refl n (pos (range_at m p q).lo) (pos (range_at m x y).hi) in
+    ring3 (λ n i j. n ⊗ (i ⊖ j) ≗ n ⊗ i ⊖ n ⊗ j) refl n (pos (range_at m p q).lo) (pos (range_at m x y).hi) in
     let same : n *ℤ pos (range_at m x y).hi ≡ n *ℤ pos (suc k) = ap (λ j. n *ℤ pos j) e in
     omega (arith, lin, above, split, same)) in
     elim (greater_cases (cut m w n k) (level m w n (suc k))) [

@@ -36,14 +36,14 @@ pub threshold_pieces : (k : ℕ) (c : ℤ) (old one two three : List ℤ) → 1 
     → three ≡ two ++ replicate (5 - k) (pos 0) → three ≡ old ++ threshold k c
 threshold_pieces k c old one two three low high a b d =
     pieces old one two three (replicate (k - 1) (pos 0)) (replicate 1 c) (replicate (5 - k) (pos 0)) a b d
-        ∙ ap (λ l. old ++ l) (sym (threshold-parts k c low high))
+    ∙ ap (λ l. old ++ l) (sym (threshold-parts k c low high))
 
 pub threshold_step_pieces : (k : ℕ) (old one two three four : List ℤ) → 2 ≤ k → k ≤ 5 → one ≡ old ++ replicate (k - 2) (pos 0)
     → two ≡ one ++ replicate 1 (negsuc 0) → three ≡ two ++ replicate 1 (pos 1) → four ≡ three ++ replicate (5 - k) (pos 0) → four ≡ old ++ threshold_step k
 threshold_step_pieces k old one two three four low high a b d e =
     e ∙ ap (λ l. l ++ replicate (5 - k) (pos 0)) (pieces old one two three (replicate (k - 2) (pos 0)) (replicate 1 (negsuc 0)) (replicate 1 (pos 1)) a b d)
     ∙ append_assoc old (replicate (k - 2) (pos 0) ++ replicate 1 (negsuc 0) ++ replicate 1 (pos 1)) (replicate (5 - k) (pos 0))
-        ∙ ap (λ l. old ++ l) (sym (threshold_step-parts k low high))
+    ∙ ap (λ l. old ++ l) (sym (threshold_step-parts k low high))
 
 -- ---- rows of a problem
 
@@ -67,7 +67,7 @@ threshold_step_in_range k low high =
     let parts = All-append IsInRange (replicate (k - 2) (pos 0) ++ replicate 1 (negsuc 0) ++ replicate 1 (pos 1)) (replicate (5 - k) (pos 0))
     (All-append IsInRange (replicate (k - 2) (pos 0) ++ replicate 1 (negsuc 0)) (replicate 1 (pos 1))
     (All-append IsInRange (replicate (k - 2) (pos 0)) (replicate 1 (negsuc 0)) (zeros_in_range (k - 2))
-        (All-replicate IsInRange 1 (negsuc 0) (small_in_range (negsuc 0) (omega arith))))
+    (All-replicate IsInRange 1 (negsuc 0) (small_in_range (negsuc 0) (omega arith))))
     (All-replicate IsInRange 1 (pos 1) (small_in_range (pos 1) (omega arith)))) (zeros_in_range (5 - k)) in
     subst (All IsInRange) (sym (threshold_step-parts k low high)) parts
 
@@ -88,7 +88,7 @@ IsRow-at n p q lo in_n most =
 pub IsRow-equal : (n p q : ℕ) → IsPair n p q → IsRow (n - 1 + 5) (record { coefs = opposite (gap_coefs n p q) ++ threshold 0 (pos 0); bound = pos 0 })
 IsRow-equal n p q in_n =
     both_parts n (opposite (gap_coefs n p q)) (threshold 0 (pos 0)) (pos 0) (length-opposite (gap_coefs n p q) ∙ length-gap_coefs n p q in_n)
-        (length-threshold 0 (pos 0))
+    (length-threshold 0 (pos 0))
     (opposite_in_range n p q) (zeros_in_range 5) (small_in_range (pos 0) (omega arith))
 
 -- the opposite of a small number
@@ -100,7 +100,7 @@ pub IsRow-below : (n p q hi : ℕ) → IsPair n p q → hi ≤ 5
     → IsRow (n - 1 + 5) (record { coefs = opposite (gap_coefs n p q) ++ threshold hi (pos 1); bound = neg_ℤ (pos hi) })
 IsRow-below n p q hi in_n most =
     both_parts n (opposite (gap_coefs n p q)) (threshold hi (pos 1)) (neg_ℤ (pos hi)) (length-opposite (gap_coefs n p q) ∙ length-gap_coefs n p q in_n)
-        (length-threshold hi (pos 1))
+    (length-threshold hi (pos 1))
     (opposite_in_range n p q) (threshold_in_range hi (pos 1) (small_in_range (pos 1) (omega arith))) (small_in_range (neg_ℤ (pos hi)) (opposite_small hi most))
 
 pub IsRow-step : (n k : ℕ) → 2 ≤ k → k ≤ 5 → IsRow (n - 1 + 5) (record { coefs = replicate (n - 1) (pos 0) ++ threshold_step k; bound = pos 0 })

@@ -59,15 +59,15 @@ every-threshold_rows : (m : Judgements) → AllByRecursion (IsThresholdTagOf m) 
 every-threshold_rows m =
     let Of : ThresholdTag → Type 0 = IsThresholdTagOf m in
     let at : AllByRecursion Of (at_rows_of m (pairs m.size)) =
-        every-map Of (λ (pair : ℕ × ℕ). At pair.0 pair.1) _
-        (passing_pairs m.size (λ pair. Of (At pair.0 pair.1)) (starts m) (λ p q h e. (h, starts_from (range_at m p q).lo e))) in
+    every-map Of (λ (pair : ℕ × ℕ). At pair.0 pair.1) _
+    (passing_pairs m.size (λ pair. Of (At pair.0 pair.1)) (starts m) (λ p q h e. (h, starts_from (range_at m p q).lo e))) in
     let equal : AllByRecursion Of (equal_rows_of m (pairs m.size)) =
-        every-map Of (λ (pair : ℕ × ℕ). Zero pair.0 pair.1) _ (passing_pairs m.size (λ pair. Of (Zero pair.0 pair.1)) (equals m) (λ p q h e. h)) in
+    every-map Of (λ (pair : ℕ × ℕ). Zero pair.0 pair.1) _ (passing_pairs m.size (λ pair. Of (Zero pair.0 pair.1)) (equals m) (λ p q h e. h)) in
     let below : AllByRecursion Of (below_rows_of m (pairs m.size)) =
-        every-map Of (λ (pair : ℕ × ℕ). Below pair.0 pair.1) _
-        (passing_pairs m.size (λ pair. Of (Below pair.0 pair.1)) (ends m) (λ p q h e. (h, (ends_from (range_at m p q).hi e).1))) in
+    every-map Of (λ (pair : ℕ × ℕ). Below pair.0 pair.1) _
+    (passing_pairs m.size (λ pair. Of (Below pair.0 pair.1)) (ends m) (λ p q h e. (h, (ends_from (range_at m p q).hi e).1))) in
     let steps : AllByRecursion Of step_rows = every-map Of (λ k. Step k) (range_with_len 2 4)
-        (every-range (λ k. Of (Step k)) 2 4 (λ k low high. (low, omega arith))) in
+    (every-range (λ k. Of (Step k)) 2 4 (λ k low high. (low, omega arith))) in
     every-append Of _ _ (every-append Of _ _ (every-append Of _ _ at equal) below) steps
 
 pub All-threshold_rows : (m : Judgements) → All (IsThresholdTagOf m) (threshold_rows m)

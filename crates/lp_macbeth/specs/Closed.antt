@@ -23,8 +23,11 @@ abbrev pub anchor_up : ℕ → ℕ → ℕ → Row
 anchor_up n good neutral = record { coefs = gap_coefs n good neutral ++ pos 0 ∷ []; bound = pos 100 }
 
 abbrev pub anchor_down : ℕ → ℕ → ℕ → Row
-anchor_down n good neutral = record { coefs = opposite (gap_coefs n good neutral) ++ pos 0 ∷ []; bound =
-    neg_ℤ (pos 100) }
+anchor_down n good neutral = record {
+  coefs = opposite (gap_coefs n good neutral) ++ pos 0 ∷ [];
+  bound =
+      neg_ℤ (pos 100);
+}
 
 -- the span and the room are the reach, as two rows
 abbrev pub reach_up : ℕ → ℕ → Row
@@ -47,8 +50,8 @@ closed_problem_of m good neutral reach a b = record {
   vars = m.size;
   cost = closed_cost m.size a b;
   rows = map (closed_row_of m) (closed_tags m)
-    ++ anchor_up m.size good neutral ∷ anchor_down m.size good neutral
-    ∷ reach_up m.size reach ∷ reach_down m.size reach ∷ [];
+      ++ anchor_up m.size good neutral ∷ anchor_down m.size good neutral
+      ∷ reach_up m.size reach ∷ reach_down m.size reach ∷ [];
 }
 
 -- w over n is a scale that meets the judgements in unit 0, good stands 100 above neutral, and the span leaves the room

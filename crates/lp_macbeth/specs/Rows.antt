@@ -17,8 +17,11 @@ cross_coefs n p q x y = add (gap_coefs n p q) (opposite (gap_coefs n x y))
 abbrev pub row_of : Judgements → Tag → Row
 row_of m (Lower p q) = record { coefs = gap_coefs m.size p q; bound = pos (range_at m p q).lo }
 row_of m (Zero p q) = record { coefs = opposite (gap_coefs m.size p q); bound = pos 0 }
-row_of m (Cross p q x y) = record { coefs = cross_coefs m.size p q x y; bound =
-    pos (range_at m p q).lo -ℤ pos (range_at m x y).hi }
+row_of m (Cross p q x y) = record {
+  coefs = cross_coefs m.size p q x y;
+  bound =
+      pos (range_at m p q).lo -ℤ pos (range_at m x y).hi;
+}
 row_of m (Order p) = record { coefs = gap_coefs m.size p (p + 1); bound = pos 0 }
 
 -- each row with its tag, in row order

@@ -135,8 +135,11 @@ scale_is e h = line-append (quoted e.0) (values_words e.1) (quoted_is e.0 h) (li
 
 not_are : (gap : Fraction) (scales : List (List ℕ × List Fraction)) (weights : List (List ℕ × Fraction)) → AllByRecursion IsNamed scales
     → AllByRecursion IsNamed weights → AllByRecursion IsLine (not_lines gap scales weights)
-not_are gap scales weights h k = (frac_is gap, lines-append (map scale_line scales) (map weight_line weights)
-    (lines-map IsNamed scale_line scale_is scales h) (lines-map IsNamed weight_line value_is weights k))
+not_are gap scales weights h k = (
+  frac_is gap,
+  lines-append (map scale_line scales) (map weight_line weights)
+      (lines-map IsNamed scale_line scale_is scales h) (lines-map IsNamed weight_line value_is weights k),
+)
 
 subtotals_are : (parts : List (List ℕ × Fraction)) (total : Fraction) → AllByRecursion IsNamed parts → AllByRecursion IsLine (subtotals_lines parts total)
 subtotals_are parts total h =
@@ -156,8 +159,10 @@ judged_is : (names : List (List ℕ)) → AllByRecursion IsLine names → (judge
 judged_is names h judged = spaced (pair_words names judged.0 judged.1) (range_text judged.2) (pair_is names judged.0 judged.1 h) (range_is judged.2)
 
 matrix_are : (names : List (List ℕ)) (judged : List (ℕ × ℕ × Bounds)) → AllByRecursion IsLine names → AllByRecursion IsLine (matrix_lines names judged)
-matrix_are names judged h = (spaced (decimal (length names)) (decimal (length judged)) (decimal_line (length names)) (decimal_line (length judged)),
-    lines-append (map quoted names) (map (judged_line names) judged) (lines-map IsLine quoted quoted_is names h) (lines-each (judged_line names) (judged_is names h) judged))
+matrix_are names judged h = (
+  spaced (decimal (length names)) (decimal (length judged)) (decimal_line (length names)) (decimal_line (length judged)),
+  lines-append (map quoted names) (map (judged_line names) judged) (lines-map IsLine quoted quoted_is names h) (lines-each (judged_line names) (judged_is names h) judged),
+)
 
 row_is : (names : List (List ℕ)) → AllByRecursion IsLine names → (row : Tag × ℤ) → IsLine (row_line names row)
 row_is names h row = spaced (tag_words names row.0) (signed_decimal row.1) (tag_is names row.0 h) (signed_line row.1)
@@ -206,9 +211,11 @@ claim_are (claim.Least value) den = (refl, (frac_is value, (refl, (signed_line d
 claim_are claim.Nothing den = (refl, tt)
 
 cert_are : (cert : CertText) → AllByRecursion IsLine (cert_lines cert)
-cert_are cert = (line-join (head_words (head_of cert)) (lines-append (claim_words cert.claim cert.den) (ROWS.now ∷ decimal (length cert.on) ∷ [])
-    (claim_are cert.claim cert.den) (refl, (decimal_line (length cert.on), tt))),
-    lines-each (λ entry. join_with_byte 32 (entry_words entry)) entry_is cert.on)
+cert_are cert = (
+  line-join (head_words (head_of cert)) (lines-append (claim_words cert.claim cert.den) (ROWS.now ∷ decimal (length cert.on) ∷ [])
+      (claim_are cert.claim cert.den) (refl, (decimal_line (length cert.on), tt))),
+  lines-each (λ entry. join_with_byte 32 (entry_words entry)) entry_is cert.on,
+)
 
 place_is : (p : Place) → IsLine (place_words p)
 place_is place.Den = refl
@@ -246,8 +253,11 @@ part_by_are h (Some value) den on k = counted_are (subject_words h ++ proof_word
     (line-append (subject_words h) (proof_words value den) (subject_is h k) (proof_is value den)) (lines-each open_line open_line_is on)
 
 parts_are : (least : Fraction) (parts : List Part) → AllByRecursion (λ (part : Part). IsHeaded part.head) parts → AllByRecursion IsLine (parts_lines least parts)
-parts_are least parts h = (frac_is least, lines-flat_map (λ (part : Part). IsHeaded part.head) part_lines
-    (λ part k. part_by_are part.head part.value part.den part.on k) parts h)
+parts_are least parts h = (
+  frac_is least,
+  lines-flat_map (λ (part : Part). IsHeaded part.head) part_lines
+      (λ part k. part_by_are part.head part.value part.den part.on k) parts h,
+)
 
 -- ---- lists
 

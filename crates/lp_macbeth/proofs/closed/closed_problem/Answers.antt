@@ -14,11 +14,11 @@ make-requires-2 c =
     let references : IsPair n a.good a.neutral = subst (λ s. IsPair s a.good a.neutral) (sym size) c.requires.references in
     let cost = subst (IsCost n) (sym c.in_ok-cost.ensures) (IsCost-closed n a.a a.b c.requires.apart a_in b_in) in
     let compared : All (IsRow n) c.push_compared.new.rows.items =
-        subst (λ s. All (IsRow s) c.push_compared.new.rows.items) (sym size) c.in_ok-push_compared.ensures.fit in
+    subst (λ s. All (IsRow s) c.push_compared.new.rows.items) (sym size) c.in_ok-push_compared.ensures.fit in
     let anchored = subst (All (IsRow n)) (sym c.in_ok-push_anchors.ensures)
-        (anchors_fit n a.good a.neutral c.push_compared.new.rows.items references compared) in
+    (anchors_fit n a.good a.neutral c.push_compared.new.rows.items references compared) in
     let reached = subst (All (IsRow n)) (sym c.in_ok-push_reaches.ensures)
-        (reaches_fit n a.reach c.push_anchors.new.rows.items (omega (arith, references.0, references.1, references.2)) c.requires.most anchored) in
+    (reaches_fit n a.reach c.push_anchors.new.rows.items (omega (arith, references.0, references.1, references.2)) c.requires.most anchored) in
     record {
       one_each = cost.one_each;
       cost_nonneg = cost.nonneg;

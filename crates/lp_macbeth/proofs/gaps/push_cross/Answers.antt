@@ -9,15 +9,15 @@ pub loop-place-preserved : goal.loop-place-preserved
 loop-place-preserved c =
     let a = c.args in
     let fits = subst (FitsSigned w128) (sym c.cross_coef.ensures)
-        (cross_fits a.n a.left.0 a.left.1 a.right.0 a.right.1 c.loop-place.place c.requires.left c.requires.right) in
+    (cross_fits a.n a.left.0 a.left.1 a.right.0 a.right.1 c.loop-place.place c.requires.left c.requires.right) in
     let is = to_z-of_z w128 c.cross_coef.result fits in
     cross_next a.n a.left.0 a.left.1 a.right.0 a.right.1 c.loop-place.place c.loop-place.coefs.items
-        (a.coefs.now.items ++ cross_coefs a.n a.left.0 a.left.1 a.right.0 a.right.1) c.push.new.self.items (to_z w128 (of_z w128 c.cross_coef.result))
+    (a.coefs.now.items ++ cross_coefs a.n a.left.0 a.left.1 a.right.0 a.right.1) c.push.new.self.items (to_z w128 (of_z w128 c.cross_coef.result))
     c.requires.left c.requires.right c.loop-place-test.true (is ∙ c.cross_coef.ensures) c.loop-place.invariant c.in_ok-push.ensures.items
 
 pub returns : goal.returns
 returns c =
     let a = c.args in
     cross_done a.n a.left.0 a.left.1 a.right.0 a.right.1 c.loop-place.place c.loop-place.coefs.items
-        (a.coefs.now.items ++ cross_coefs a.n a.left.0 a.left.1 a.right.0 a.right.1)
+    (a.coefs.now.items ++ cross_coefs a.n a.left.0 a.left.1 a.right.0 a.right.1)
     c.requires.left c.requires.right c.loop-place-test.false c.loop-place.invariant

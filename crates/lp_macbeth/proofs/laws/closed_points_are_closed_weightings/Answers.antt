@@ -9,8 +9,8 @@ returns c =
     let a = c.args in
     let m = a.matrix.now in
     let h : IsWeighting m a.order.now a.gaps.now a.closed.now =
-        IfOk-at_ok (IsWeighting m a.order.now a.gaps.now) c.requires.made
-        (weighting_is m a.order.now a.gaps.now c.requires.some c.are_fractions.ensures.positive) in
+    IfOk-at_ok (IsWeighting m a.order.now a.gaps.now) c.requires.made
+    (weighting_is m a.order.now a.gaps.now c.requires.some c.are_fractions.ensures.positive) in
     record {
       points = λ x n. points_of m a.order.now a.gaps.now a.closed.now x n (omega (arith, c.requires.gaps, c.requires.some)) h;
       weights = weights_of-gaps_of;

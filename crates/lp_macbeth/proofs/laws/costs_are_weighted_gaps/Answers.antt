@@ -10,7 +10,7 @@ returns c =
     let pg = c.are_fractions.ensures.positive in
     let two : 2 ≤ m.size = omega (arith, c.requires.gaps, c.requires.some) in
     let h : IsWeighting m a.order.now a.gaps.now a.closed.now =
-        IfOk-at_ok (IsWeighting m a.order.now a.gaps.now) c.requires.made (weighting_is m a.order.now a.gaps.now c.requires.some pg) in
+    IfOk-at_ok (IsWeighting m a.order.now a.gaps.now) c.requires.made (weighting_is m a.order.now a.gaps.now c.requires.some pg) in
     record {
       least = least_of_gaps m a.order.now a.gaps.now a.closed.now c.requires.some pg h;
       scale = (h.weighed.1.are.positive, h.weighed.1.are.in_range);

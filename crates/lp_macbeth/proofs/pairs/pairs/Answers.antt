@@ -11,5 +11,5 @@ loop-p-preserved c =
     let n = c.args.n in
     let p = c.loop-p.p in
     join_next c.loop-p.pairs.items (pairs n) (flat_map (row n) (range_with_len p (n - p))) (flat_map (row n) (range_with_len (p + 1) (n - (p + 1))))
-        c.push_row.new.pairs.items (row n p)
+    c.push_row.new.pairs.items (row n p)
     c.loop-p.invariant (ap (flat_map (row n)) (range_with_len-next p n c.loop-p-test.true)) c.in_ok-push_row.ensures

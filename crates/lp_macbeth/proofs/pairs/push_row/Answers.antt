@@ -11,5 +11,5 @@ loop-q-preserved c =
     let p = c.args.p in
     let q = c.loop-q.q in
     push_next c.loop-q.pairs.items (c.args.pairs.now.items ++ row n p) (map (λ q. (p, q)) (range_with_len q (n + 1 - q)))
-        (map (λ q. (p, q)) (range_with_len (q + 1) (n + 1 - (q + 1)))) c.push.new.self.items (p, q)
+    (map (λ q. (p, q)) (range_with_len (q + 1) (n + 1 - (q + 1)))) c.push.new.self.items (p, q)
     c.loop-q.invariant (ap (map (λ q. (p, q))) (range_with_len-next q (n + 1) c.loop-q-test.true)) c.in_ok-push.ensures.items

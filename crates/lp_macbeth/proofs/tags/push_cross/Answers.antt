@@ -14,6 +14,6 @@ loop-pair-preserved c =
     let below : c.from.result < 7 = omega (arith, read, c.range.ensures.range.0, c.range.ensures.range.1) in
     let lo : c.from.result ≡ (range_at m left.0 left.1).lo = read ∙ ap (λ r. r.lo) c.range.ensures.value in
     let rights = c.as_slice.ensures ∙ rights_are m ps c.in_ok-under.under.items c.from.result c.index.result.now c.in_ok-under.ensures below c.index.ensures
-        ∙ ap (under m ps) lo in
+    ∙ ap (under m ps) lo in
     cross_next m ps c.loop-pair.pair-index c.loop-pair.tags.items (c.args.tags.now.items ++ cross_rows_of m ps ps)
-        c.push_cross_of.new.tags.items c.as_slice.result.now c.loop-pair-test.true rights c.loop-pair.invariant c.in_ok-push_cross_of.ensures
+    c.push_cross_of.new.tags.items c.as_slice.result.now c.loop-pair-test.true rights c.loop-pair.invariant c.in_ok-push_cross_of.ensures

@@ -11,5 +11,5 @@ loop-p-preserved c =
     let n = c.size-size.result in
     let p = c.loop-p.p in
     push_next c.loop-p.tags.items (c.args.tags.now.items ++ order_rows c.args.matrix.now) (map (λ p. Order p) (range_with_len p (n - p)))
-        (map (λ p. Order p) (range_with_len (p + 1) (n - (p + 1)))) c.push.new.self.items (Order p)
+    (map (λ p. Order p) (range_with_len (p + 1) (n - (p + 1)))) c.push.new.self.items (Order p)
     c.loop-p.invariant (ap (map (λ p. Order p)) (range_with_len-next p n c.loop-p-test.true)) c.in_ok-push.ensures.items

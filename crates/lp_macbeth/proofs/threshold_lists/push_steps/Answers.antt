@@ -10,5 +10,5 @@ pub loop-threshold-preserved : goal.loop-threshold-preserved
 loop-threshold-preserved c =
     let k = c.loop-threshold.threshold in
     push_next c.loop-threshold.tags.items (c.args.tags.now.items ++ step_rows) (map (λ k. Step k) (range_with_len k (6 - k)))
-        (map (λ k. Step k) (range_with_len (k + 1) (6 - (k + 1)))) c.push.new.self.items (Step k)
+    (map (λ k. Step k) (range_with_len (k + 1) (6 - (k + 1)))) c.push.new.self.items (Step k)
     c.loop-threshold.invariant (ap (map (λ k. Step k)) (range_with_len-next k 6 c.loop-threshold-test.true)) c.in_ok-push.ensures.items

@@ -7,4 +7,4 @@ loop-row-preserved c =
     let none : ℕ = 0 in
     push_next c.loop-row.weights.items (replicate c.args.count none) (replicate (c.args.count - c.loop-row._row) none)
     (replicate (c.args.count - (c.loop-row._row + 1)) none) c.push.new.self.items none c.loop-row.invariant
-        (replicate-next c.loop-row._row c.args.count none c.loop-row-test.true) c.in_ok-push.ensures.items
+    (replicate-next c.loop-row._row c.args.count none c.loop-row-test.true) c.in_ok-push.ensures.items

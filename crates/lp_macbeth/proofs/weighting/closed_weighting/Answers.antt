@@ -9,10 +9,10 @@ costs-requires c =
     let multiple = rw c.deref.ensures.value at c.in_ok-scale.ensures in
     let numerators = rw c.deref-2.ensures.value at c.in_ok-numerators.ensures in
     let are = numbers_given gaps least c.in_ok-excesses.excesses.items c.in_ok-scale.scale c.in_ok-numerators.numerators.items
-        c.requires.some c.are_fractions.ensures.positive c.least-least.ensures c.in_ok-excesses.ensures (sym multiple) numerators in
+    c.requires.some c.are_fractions.ensures.positive c.least-least.ensures c.in_ok-excesses.ensures (sym multiple) numerators in
     subst (λ k. All (λ i. i < k) c.args.order.now) (sym
-        (ap length c.deref-3.ensures.value ∙ length-numbers least gaps c.in_ok-scale.scale c.in_ok-numerators.numerators.items are.same))
-        c.requires.order.within
+    (ap length c.deref-3.ensures.value ∙ length-numbers least gaps c.in_ok-scale.scale c.in_ok-numerators.numerators.items are.same))
+    c.requires.order.within
 
 gap_costs : (c : goal.In_ok-cost) → AreGapCosts (length c.args.gaps.now) c.in_ok-cost.cost.items
 gap_costs c =
@@ -20,8 +20,8 @@ gap_costs c =
     let numerators = rw c.deref-2.ensures.value at c.in_ok-numerators.ensures in
     let cost = rw c.deref-3.ensures.value at c.in_ok-cost.ensures in
     gap_costs_given c.args.order.now c.args.gaps.now c.least-least.result c.in_ok-excesses.excesses.items c.in_ok-scale.scale
-        c.in_ok-numerators.numerators.items c.in_ok-cost.cost.items c.requires.some
-        c.are_fractions.ensures.positive c.requires.order c.least-least.ensures c.in_ok-excesses.ensures (sym multiple) numerators cost
+    c.in_ok-numerators.numerators.items c.in_ok-cost.cost.items c.requires.some
+    c.are_fractions.ensures.positive c.requires.order c.least-least.ensures c.in_ok-excesses.ensures (sym multiple) numerators cost
 
 pub weighting_problem-requires-clause-one_each : goal.weighting_problem-requires-clause-one_each
 weighting_problem-requires-clause-one_each c = (gap_costs c).each ∙ c.requires.gaps

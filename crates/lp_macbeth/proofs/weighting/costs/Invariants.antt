@@ -6,4 +6,4 @@ use Rattle.lp_macbeth.proofs.weighting.costs.Given as goal
 abbrev pub invariant-loop-criterion : goal.invariant-loop-criterion
 invariant-loop-criterion l =
     ((checked_sums l.total (in_order (pos 0) (drop l.criterion-index l.order) l.numerators)) >>= (λ others. Ok (l.costs.items ++ others))) ≡ checked_sums
-        (pos 0) (in_order (pos 0) l.order l.numerators)
+    (pos 0) (in_order (pos 0) l.order l.numerators)

@@ -8,7 +8,7 @@ pub loop-gap-preserved : goal.loop-gap-preserved
 loop-gap-preserved c =
     let items : c.push.new.self.items ≡ c.loop-gap.counts.items ++ pos (c.args.count - c.loop-gap.gap) ∷ [] = search rules in
     push_next c.loop-gap.counts.items (falling c.args.count) (falling (c.args.count - c.loop-gap.gap)) (falling (c.args.count - (c.loop-gap.gap + 1)))
-        c.push.new.self.items (pos (c.args.count - c.loop-gap.gap))
+    c.push.new.self.items (pos (c.args.count - c.loop-gap.gap))
     c.loop-gap.invariant (falling-next c.loop-gap.gap c.args.count c.loop-gap-test.true) items
 
 pub returns : goal.returns

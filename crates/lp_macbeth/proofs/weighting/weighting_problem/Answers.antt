@@ -10,7 +10,7 @@ make-requires-3 c =
     let n : ℕ = c.size-vars.result in
     let size : n ≡ c.args.matrix.now.size = c.size-vars.ensures.value in
     let compared : All (IsRow (n - 1)) c.push_compared.new.rows.items =
-        subst (λ s. All (IsRow (s - 1)) c.push_compared.new.rows.items) (sym size) c.in_ok-push_compared.ensures.fit in
+    subst (λ s. All (IsRow (s - 1)) c.push_compared.new.rows.items) (sym size) c.in_ok-push_compared.ensures.fit in
     let most : n - 1 ≤ 1000000 = omega (arith, c.size-vars.ensures.most) in
     let all = subst (All (IsRow (n - 1))) (sym c.in_ok-push_sums.ensures) (sums_fit (n - 1) c.push_compared.new.rows.items most compared) in
     record {
