@@ -7,7 +7,7 @@ use Rattle.std.proofs.lemmas.List.{length-append}
 use Rattle.std.proofs.lemmas.List.Elements.{All-nil, All-cons, All-append}
 use Rattle.judgement_matrix.specs.declared.tag.Tag.{Tag}
 use Rattle.judgement_matrix.specs.declared.tag.Tag.TheVariants.{Lower, Zero, Cross, Order}
-use Rattle.cert_check.specs.Reading.{words, IsPairText, IsCrossText, IsPrintedEntry, HasEntries}
+use Rattle.cert_check.specs.Reading.{words, IsPrintedPair, IsPrintedCross, IsPrintedEntry, HasEntries}
 use Rattle.cert_check.specs.Text.{IsEntryText, tag_words, entry_words, entries_text, line_of, BeginWithNo}
 use Rattle.cert_check.specs.declared.text.TheConstants.{LOWER, ZERO, CROSS}
 use Rattle.cert_check.proofs.LineLemmas.{other_line, this_line}
@@ -18,33 +18,33 @@ pub first_differs : (a b : List ℕ) → get_or a 0 0 ≢ get_or b 0 0 → a ≢
 first_differs a b other e = other (ap (λ l. get_or l 0 0) e)
 
 -- where the words behind `lower` are no pair's, there is no entry
-pub no_lower : (line kind rest : List ℕ) → words line ≡ kind ∷ words rest → kind ≡ LOWER.now → ((e : (ℕ × ℕ) × ℤ) → ¬ IsPairText rest e) → (x : Tag × ℤ)
-    → ¬ IsPrintedEntry (words line) x
+pub no_lower : (line : List (List ℕ)) (kind : List ℕ) (rest : List (List ℕ)) → line ≡ kind ∷ rest
+    → kind ≡ LOWER.now → ((e : (ℕ × ℕ) × ℤ) → ¬ IsPrintedPair rest e) → (x : Tag × ℤ) → ¬ IsPrintedEntry line x
 no_lower line kind rest cut is none x = step x.0 x.1
   where
-    step : (tag : Tag) (y : ℤ) → ¬ IsPrintedEntry (words line) (tag, y)
+    step : (tag : Tag) (y : ℤ) → ¬ IsPrintedEntry line (tag, y)
     step (Lower p q) y h = let same = h.1 in none ((p, q), y) (h.0.0, h.0.1, cc)
     step (Zero p q) y h = let same = h.1 in first_differs LOWER.now ZERO.now (λ e. omega arith) (cc)
     step (Cross p q a b) y h = let same = h.1 in first_differs LOWER.now CROSS.now (λ e. omega arith) (cc)
     step (Order p) y h = h.0.0
 
 -- where the words behind `zero` are no pair's, there is no entry
-pub no_zero : (line kind rest : List ℕ) → words line ≡ kind ∷ words rest → kind ≡ ZERO.now → ((e : (ℕ × ℕ) × ℤ) → ¬ IsPairText rest e) → (x : Tag × ℤ)
-    → ¬ IsPrintedEntry (words line) x
+pub no_zero : (line : List (List ℕ)) (kind : List ℕ) (rest : List (List ℕ)) → line ≡ kind ∷ rest
+    → kind ≡ ZERO.now → ((e : (ℕ × ℕ) × ℤ) → ¬ IsPrintedPair rest e) → (x : Tag × ℤ) → ¬ IsPrintedEntry line x
 no_zero line kind rest cut is none x = step x.0 x.1
   where
-    step : (tag : Tag) (y : ℤ) → ¬ IsPrintedEntry (words line) (tag, y)
+    step : (tag : Tag) (y : ℤ) → ¬ IsPrintedEntry line (tag, y)
     step (Zero p q) y h = let same = h.1 in none ((p, q), y) (h.0.0, h.0.1, cc)
     step (Lower p q) y h = let same = h.1 in first_differs ZERO.now LOWER.now (λ e. omega arith) (cc)
     step (Cross p q a b) y h = let same = h.1 in first_differs ZERO.now CROSS.now (λ e. omega arith) (cc)
     step (Order p) y h = h.0.0
 
 -- where the words behind `cross` are not those of two pairs, there is no entry
-pub no_cross : (line kind rest : List ℕ) → words line ≡ kind ∷ words rest → kind ≡ CROSS.now → ((e : ((ℕ × ℕ) × (ℕ × ℕ)) × ℤ) → ¬ IsCrossText rest e)
-    → (x : Tag × ℤ) → ¬ IsPrintedEntry (words line) x
+pub no_cross : (line : List (List ℕ)) (kind : List ℕ) (rest : List (List ℕ)) → line ≡ kind ∷ rest
+    → kind ≡ CROSS.now → ((e : ((ℕ × ℕ) × (ℕ × ℕ)) × ℤ) → ¬ IsPrintedCross rest e) → (x : Tag × ℤ) → ¬ IsPrintedEntry line x
 no_cross line kind rest cut is none x = step x.0 x.1
   where
-    step : (tag : Tag) (y : ℤ) → ¬ IsPrintedEntry (words line) (tag, y)
+    step : (tag : Tag) (y : ℤ) → ¬ IsPrintedEntry line (tag, y)
     step (Cross p q a b) y h = let same = h.1 in none (((p, q), (a, b)), y) (h.0.0.0, h.0.0.1, h.0.1, cc)
     step (Lower p q) y h = let same = h.1 in first_differs CROSS.now LOWER.now (λ e. omega arith) (cc)
     step (Zero p q) y h = let same = h.1 in first_differs CROSS.now ZERO.now (λ e. omega arith) (cc)

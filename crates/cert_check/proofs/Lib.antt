@@ -1,9 +1,13 @@
 pub mod CertificateLemmas
 pub mod ColumnLemmas
+pub mod DecidedLemmas
 pub mod EntryLemmas
 pub mod EntryTexts
+pub mod ExistenceLemmas
 pub mod FailsLemmas
 pub mod FarkasLemmas
+pub mod FoundLines
+pub mod FoundNumbers
 pub mod HeadTexts
 pub mod LineLemmas
 pub mod NamingLemmas
@@ -14,5 +18,7 @@ pub mod PrintingLemmas
 pub mod ReachedLemmas
 pub mod SpanLemmas
 pub mod SumLemmas
+pub mod TextExistence
 pub mod UniqueVerdict
+pub mod VerdictExistence
 pub mod WordLemmas

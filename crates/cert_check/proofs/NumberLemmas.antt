@@ -13,7 +13,7 @@ use Rattle.frac128.proofs.PrintingLemmas.{reading_of_printed, one_fraction, read
 use Rattle.cert_check.specs.Text.{IsValue}
 
 -- the bytes that print a fraction are read as it
-reads : (value : Fraction) → IsValue value → IsReading (frac_text value) value
+pub reads : (value : Fraction) → IsValue value → IsReading (frac_text value) value
 reads value h = reading_of_printed value h.0 h.1 h.2
 
 -- a fraction's text is that of no other

@@ -8,6 +8,27 @@ use Rattle.cert_check.specs.declared.verdict.Verdict.{Verdict}
 use Rattle.cert_check.specs.declared.verdict.Verdict.TheVariants.{Holds, Fails}
 use Rattle.cert_check.specs.Lines.{Check, IsBefore, Passes, IsReached, IsPassed, AllSay, IsVerdict, IsFirstTooWide, Decides}
 
+-- nothing is before the denominator
+pub reached-den : (check : Check) → check.IsLine Den → IsReached check Den
+reached-den check here = record { is_line = here; passed = step }
+  where
+    step : (line : Place) → check.IsLine line → IsBefore line Den → Passes check line
+    step Den is_line before = absurd before
+    step (Entry i) is_line before = absurd before
+    step (Column i) is_line before = absurd before
+    step Bound is_line before = absurd before
+
+-- the entries before it
+pub reached-entry : (check : Check) (k : ℕ) → check.IsLine (Entry k) → (check.IsLine Den → Passes check Den)
+    → ((i : ℕ) → check.IsLine (Entry i) → i < k → Passes check (Entry i)) → IsReached check (Entry k)
+reached-entry check k here den entries = record { is_line = here; passed = step }
+  where
+    step : (line : Place) → check.IsLine line → IsBefore line (Entry k) → Passes check line
+    step Den is_line before = den is_line
+    step (Entry i) is_line before = entries i is_line before
+    step (Column i) is_line before = absurd before
+    step Bound is_line before = absurd before
+
 -- all entries, and the columns before it
 pub reached-column : (check : Check) (k : ℕ) → check.IsLine (Column k) → (check.IsLine Den → Passes check Den)
     → ((i : ℕ) → check.IsLine (Entry i) → Passes check (Entry i))

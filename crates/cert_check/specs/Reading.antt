@@ -49,15 +49,15 @@ abbrev pub IsPrintedEntry : List (List ℕ) → Tag × ℤ → Type 0
 IsPrintedEntry line entry = IsEntryText entry × (line ≡ entry_words entry)
 
 -- the words are those of the positions of a pair and a multiplier
-abbrev pub IsPairText : List ℕ → (ℕ × ℕ) × ℤ → Type 0
-IsPairText text e =
-    ArePositions e.0.0 e.0.1 × IsInRange e.1 × (words text ≡ decimal e.0.0 ∷ decimal e.0.1 ∷ signed_decimal e.1 ∷ [])
+abbrev pub IsPrintedPair : List (List ℕ) → (ℕ × ℕ) × ℤ → Type 0
+IsPrintedPair line e =
+    ArePositions e.0.0 e.0.1 × IsInRange e.1 × (line ≡ decimal e.0.0 ∷ decimal e.0.1 ∷ signed_decimal e.1 ∷ [])
 
 -- the words are those of the positions of two pairs and a multiplier
-abbrev pub IsCrossText : List ℕ → ((ℕ × ℕ) × (ℕ × ℕ)) × ℤ → Type 0
-IsCrossText text e =
+abbrev pub IsPrintedCross : List (List ℕ) → ((ℕ × ℕ) × (ℕ × ℕ)) × ℤ → Type 0
+IsPrintedCross line e =
     ArePositions e.0.0.0 e.0.0.1 × ArePositions e.0.1.0 e.0.1.1 × IsInRange e.1
-    × (words text ≡ decimal e.0.0.0 ∷ decimal e.0.0.1 ∷ decimal e.0.1.0 ∷ decimal e.0.1.1 ∷ signed_decimal e.1 ∷ [])
+    × (line ≡ decimal e.0.0.0 ∷ decimal e.0.0.1 ∷ decimal e.0.1.0 ∷ decimal e.0.1.1 ∷ signed_decimal e.1 ∷ [])
 
 -- the text begins with entries, no more than so many
 pub record HasEntries (text : List ℕ) (count : ℕ) (on : List (Tag × ℤ)) (rest : List ℕ) : Type 0 where

@@ -1,11 +1,11 @@
 //! What the definitions in the contracts amount to: functions that do nothing, whose contracts are the laws.
 
-ghost use Rattle.std.specs.Prelude.{◌≡◌, ◌↔◌, ◌≤◌, ℕ, ℤ, List as Items};
+ghost use Rattle.std.specs.Prelude.{◌≡◌, ◌↔◌, ◌≤◌, ◌⊎◌, ℕ, ℤ, List as Items, Result as Answer};
 ghost use Rattle.integers.specs.Fraction.{Fraction, FractionAtMost};
 ghost use Rattle.judgement_matrix.specs.Scale.{value_at, IsScale, IsMetBy, IsInconsistent};
 ghost use Rattle.lp_macbeth.specs.Rows.{problem_of};
 ghost use Rattle.cert_check.specs.Rows.{NeverRises, FailsNamedRow};
-ghost use Rattle.frac128.specs.Problem.{IsSpanCertificate, IsFarkasCertificate};
+ghost use Rattle.frac128.specs.Problem.{ProblemData, IsSpanCertificate, IsFarkasCertificate};
 ghost use Rattle.cert_check.specs.Text.{IsTextOf, IsFirstBad};
 ghost use Rattle.cert_check.specs.Lines.{AllSay, IsVerdict, span_check, farkas_check};
 
@@ -84,4 +84,23 @@ pub fn certificates_speak_of_scales(matrix: &Matrix, cert: &Cert)
         → IsMetBy matrix.now w n → FractionAtMost value (record { num = value_at w 1; den = n }) }
     ensures none { IsFarkasCertificate (problem_of matrix.now) cert.now
         → IsInconsistent matrix.now }
+{}
+
+/// States that any bytes, or other numbers in their place, are the text of a certificate or have a first line that doesn't fit.
+/// It does nothing.
+pub fn every_text_reads_or_is_bad()
+    ensures { (bytes : Items ℕ)
+        → ((cert : CertText) × IsTextOf bytes cert) ⊎ ((k : ℕ) × IsFirstBad bytes k) }
+{}
+
+/// States that a check of a span certificate has an answer, for any problem, value and certificate. It does nothing.
+pub fn every_span_check_has_a_verdict()
+    ensures { (p : ProblemData) (value : Fraction) (cert : Cert)
+        → (v : Answer Verdict TooWide) × IsVerdict (span_check p value cert) v }
+{}
+
+/// States that a check of a Farkas certificate has an answer, for any problem and certificate. It does nothing.
+pub fn every_farkas_check_has_a_verdict()
+    ensures { (p : ProblemData) (cert : Cert)
+        → (v : Answer Verdict TooWide) × IsVerdict (farkas_check p cert) v }
 {}

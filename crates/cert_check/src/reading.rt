@@ -1,7 +1,7 @@
 //! Certificates read from their text.
 
 ghost use Rattle.std.specs.Prelude.{◌≡◌, ◌∷◌, IfOk, MatchResult};
-ghost use Rattle.cert_check.specs.Reading.{words, Found, IsPrintedHead, IsPrintedEntry, IsPrintedCount, IsPairText, IsCrossText, AreEntries, IsEntriesFault};
+ghost use Rattle.cert_check.specs.Reading.{words, Found, IsPrintedHead, IsPrintedEntry, IsPrintedCount, IsPrintedPair, IsPrintedCross, AreEntries, IsEntriesFault};
 ghost use Rattle.cert_check.specs.Text.{IsPrintable, IsTextOf, IsFault};
 ghost use Rattle.cert_check.specs.declared.text.TheConstants.{LEAST, NOTHING};
 
@@ -188,7 +188,7 @@ fn read_entry(alloc: Global, line: &[u8]) -> Result<Option<(Tag, i128)>, NoMemor
 
 // The positions of a pair and a multiplier that are printed so.
 fn read_pair(alloc: Global, text: &[u8]) -> Result<Option<((u8, u8), i128)>, NoMemory>
-    ensures { IfOk result (Found (IsPairText text.now)) }
+    ensures { IfOk result (Found (IsPrintedPair (words text.now))) }
 {
     let Some((p, q, multiplier)) = three_words(text) else {
         return Ok(None);
@@ -204,7 +204,7 @@ fn read_pair(alloc: Global, text: &[u8]) -> Result<Option<((u8, u8), i128)>, NoM
 
 // The positions of two pairs and a multiplier that are printed so.
 fn read_cross(alloc: Global, text: &[u8]) -> Result<Option<(((u8, u8), (u8, u8)), i128)>, NoMemory>
-    ensures { IfOk result (Found (IsCrossText text.now)) }
+    ensures { IfOk result (Found (IsPrintedCross (words text.now))) }
 {
     let Some((p, q, x, y, multiplier)) = five_words(text) else {
         return Ok(None);
