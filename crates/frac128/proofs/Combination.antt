@@ -24,13 +24,6 @@ weighted_sum-push rows (f ∷ on) e =
     ap (add (scale f.1 (row_at rows f.0).coefs)) (weighted_sum-push rows on e)
     ∙ sym (add_assoc (scale f.1 (row_at rows f.0).coefs) (weighted_sum (multipliers on) (coefs_on rows on)) (scale e.1 (row_at rows e.0).coefs))
 
--- the coefficients of a combination with one more row
-pub coefs-push : (p : ProblemData) (on : List (ℕ × ℤ)) (e : ℕ × ℤ)
-    → (combination p (on ++ e ∷ [])).coefs ≡ add (combination p on).coefs (scale e.1 (row_at p.rows e.0).coefs)
-coefs-push p on e =
-    ap (add (replicate p.vars (pos 0))) (weighted_sum-push p.rows on e)
-    ∙ sym (add_assoc (replicate p.vars (pos 0)) (weighted_sum (multipliers on) (coefs_on p.rows on)) (scale e.1 (row_at p.rows e.0).coefs))
-
 -- the bound of a combination with one more row
 pub bound-push : (p : ProblemData) (on : List (ℕ × ℤ)) (e : ℕ × ℤ)
     → (combination p (on ++ e ∷ [])).bound ≡ (combination p on).bound +ℤ e.1 *ℤ (row_at p.rows e.0).bound

@@ -9,7 +9,7 @@ use Rattle.integers.specs.Vector.{dot, scale, add, weighted_sum, AreNonNegative}
 use Rattle.integers.proofs.Laws.{lin}
 use Rattle.integers.proofs.VectorLaws.{add_assoc, add_comm}
 use Rattle.frac128.specs.Entries.{entries_from}
-use Rattle.frac128.specs.Problem.{ProblemData, IsRow, IsProblem, AreRowMultipliers, row_at, multipliers, rows_on, combination}
+use Rattle.frac128.specs.Problem.{ProblemData, IsRow, AreRowMultipliers, row_at, multipliers, rows_on, combination}
 use Rattle.frac128.specs.declared.problem.Row.{Row}
 use Rattle.frac128.proofs.Combination.{get_or-combination, column_of-map}
 use Rattle.frac128.proofs.ProblemLaws.{coefs_on}
@@ -153,8 +153,3 @@ entries-coef p ws j l =
     get_or-combination p on j
     ∙ ap (dot (multipliers on)) (column_of-map j (rows_on p.rows on))
     ∙ entries_sum (λ (r : Row). get_or r.coefs j (pos 0)) p.rows 0 ws p.rows l (IsRest-all p.rows)
-
--- its coefficients are the weighted sum of all rows
-pub entries-coefs : (p : ProblemData) → IsProblem p → (ws : List ℤ) → length ws ≡ length p.rows
-    → (combination p (entries_from 0 ws)).coefs ≡ add (replicate p.vars (pos 0)) (weighted_sum ws (map (λ (r : Row). r.coefs) p.rows))
-entries-coefs p ok ws l = entries_rows p.vars p.rows 0 ws p.rows l (IsRest-all p.rows) ok.rows_fit

@@ -72,7 +72,8 @@ sizes_sound text s h = by_place (position (λ b. b == slash) text) refl h
         let pair : (n, 1) ≡ s = cc in
         subst (λ (p : ℕ × ℕ). WritesUnsigned text p.0 p.1) pair (inl (d.0, d.1, refl))
 
-    by_place : (o : Option ℕ) → position (λ b. b == slash) text ≡ o → option_map_or (λ at. quotient_of (digits_of (take at text)) (digits_of (drop (at + 1) text))) o (option_map (λ n. (n, 1)) (digits_of text)) ≡ Some s → WritesUnsigned text s.0 s.1
+    by_place : (o : Option ℕ) → position (λ b. b == slash) text ≡ o
+        → option_map_or (λ at. quotient_of (digits_of (take at text)) (digits_of (drop (at + 1) text))) o (option_map (λ n. (n, 1)) (digits_of text)) ≡ Some s → WritesUnsigned text s.0 s.1
     by_place None e k = whole (digits_of text) refl k
     by_place (Some at) e k =
         let q = quotient_sound (digits_of (take at text)) (digits_of (drop (at + 1) text)) s k in
@@ -93,7 +94,8 @@ sizes_sound text s h = by_place (position (λ b. b == slash) text) refl h
 sizes_complete : (text : List ℕ) (n d : ℕ) → WritesUnsigned text n d → sizes_of text ≡ Some (n, d)
 sizes_complete text n d h = by_place (position (λ b. b == slash) text) refl
   where
-    by_place : (o : Option ℕ) → position (λ b. b == slash) text ≡ o → option_map_or (λ at. quotient_of (digits_of (take at text)) (digits_of (drop (at + 1) text))) o (option_map (λ n. (n, 1)) (digits_of text)) ≡ Some (n, d)
+    by_place : (o : Option ℕ) → position (λ b. b == slash) text ≡ o
+        → option_map_or (λ at. quotient_of (digits_of (take at text)) (digits_of (drop (at + 1) text))) o (option_map (λ n. (n, 1)) (digits_of text)) ≡ Some (n, d)
     by_place None e =
         let w = digits_without_slash text n d (no_slash text e) h in
         rw (digits_complete text w.0, ← w.1, w.2) refl
@@ -111,10 +113,13 @@ step_some None f y h = absurd (cc)
 step_some (Some a) f y h = (a, refl, h)
 
 -- what a fraction comes from
-from_sound : (sign : ℕ → ℤ) (s : ℕ × ℕ) (f : Fraction) → fraction_from sign s ≡ Some f → (s.0 < 2 ^ 127) × (s.1 < 2 ^ 127) × (f ≡ lowest_terms (record { num = sign s.0; den = pos s.1 }))
+from_sound : (sign : ℕ → ℤ) (s : ℕ × ℕ) (f : Fraction) → fraction_from sign s ≡ Some f
+    → (s.0 < 2 ^ 127) × (s.1 < 2 ^ 127) × (f ≡ lowest_terms (record { num = sign s.0; den = pos s.1 }))
 from_sound sign s f h = by_test (nat_lt s.0 (2 ^ 127) && nat_lt s.1 (2 ^ 127)) refl h
   where
-    by_test : (b : Bool) → (nat_lt s.0 (2 ^ 127) && nat_lt s.1 (2 ^ 127)) ≡ b → cond b (Some (lowest_terms (record { num = sign s.0; den = pos s.1 }))) None ≡ Some f → (s.0 < 2 ^ 127) × (s.1 < 2 ^ 127) × (f ≡ lowest_terms (record { num = sign s.0; den = pos s.1 }))
+    by_test : (b : Bool) → (nat_lt s.0 (2 ^ 127) && nat_lt s.1 (2 ^ 127)) ≡ b
+        → cond b (Some (lowest_terms (record { num = sign s.0; den = pos s.1 }))) None ≡ Some f
+        → (s.0 < 2 ^ 127) × (s.1 < 2 ^ 127) × (f ≡ lowest_terms (record { num = sign s.0; den = pos s.1 }))
     by_test true e k =
         let parts = both (nat_lt s.0 (2 ^ 127)) (nat_lt s.1 (2 ^ 127)) e in
         let num : s.0 < 2 ^ 127 = let p = parts.0 in grind (arith, nat_tests) in

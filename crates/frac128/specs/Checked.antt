@@ -1,7 +1,8 @@
 -- Arithmetic of fractions that refuses numbers out of the range: what each call forms, and what it answers.
 -- A formula is a chain of these, as `do x ← checked_sum f g; checked_product x h`.
-use Rattle.std.specs.Prelude.{true, false, List, [], ◌∷◌, ℤ, ◌+ℤ◌, ◌*ℤ◌, int_div, Result, Ok, Err, MatchResult}
+use Rattle.std.specs.Prelude.{◌≡◌, true, false, List, [], ◌∷◌, ℤ, ◌+ℤ◌, ◌*ℤ◌, int_div, Result, Ok, Err, MatchResult, IsTrue}
 use Rattle.std.specs.List.{list_all, AllByRecursion}
+use Rattle.std.specs.Result.{is_err}
 use Rattle.integers.specs.Divisibility.{gcd_of}
 use Rattle.integers.specs.Fraction.{Fraction, SameFraction, fraction_sum, fraction_product}
 use Rattle.frac128.specs.Frac.{IsReduced, lowest_terms, opposite, reciprocal}
@@ -77,3 +78,10 @@ checked_product f g = checked (product_numbers (gcd_of f.num g.den) (gcd_of g.nu
 -- (a/b) / (c/d), which means something where c isn't 0
 unfoldable pub checked_quotient : Fraction → Fraction → Result Fraction TooWide
 checked_quotient f g = checked_product f (reciprocal g.num g.den)
+
+-- ---- what a call answers for a formula
+
+-- what the formula gives is answered, as it is seen, or a fault, which says something of whether the formula is too wide
+abbrev pub Gives : {V X E : Type 0} → (E → Type 0 → Type 0) → (V → X) → Result X TooWide → Result V E → Type 0
+Gives Says items worked (Ok given) = worked ≡ Ok (items given)
+Gives Says items worked (Err fault) = Says fault (IsTrue (is_err worked))

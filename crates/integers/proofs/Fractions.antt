@@ -2,12 +2,10 @@
 use lib.IntN.{*ℤ_comm}
 use Rattle.std.specs.Int.Signed.{<ℤ_irrefl}
 use Rattle.std.proofs.lemmas.List.Elements.{All-nil, All-cons, All-head, All-tail}
-use Rattle.std.proofs.Common.{◌≡◌, ◌↔◌, suc, length, List, [], ◌∷◌, ℤ, pos, ◌*ℤ◌, ◌<ℤ◌, refl, sym, ap, ap₂, ◌∙◌, arith}
+use Rattle.std.proofs.Common.{◌≡◌, ◌↔◌, suc, length, List, [], ◌∷◌, ℤ, pos, ◌*ℤ◌, ◌<ℤ◌, refl, sym, ap, ap₂, ◌∙◌}
 use mathlib.Core.List.{cons≢nil, head-eq_of_cons-eq, tail-eq_of_cons-eq}
-use Rattle.integers.specs.Fraction.{Fraction, IsFraction, SameFraction, FractionLess, FractionAtMost, AreFractions, over, SameFractions}
+use Rattle.integers.specs.Fraction.{Fraction, IsFraction, SameFraction, FractionLess, AreFractions, over, SameFractions}
 use Rattle.integers.specs.Vector.{scale}
-use Rattle.std.proofs.lemmas.Int.{by_lt_z}
-use Rattle.integers.proofs.Laws.{lin}
 use Rattle.integers.proofs.Ring.{◌⊗◌, ◌≗◌, ring3}
 use Rattle.integers.proofs.Order.{fraction_eq_eq, fraction_eq_lt, fraction_lt_eq, fraction_lt_lt}
 
@@ -40,10 +38,6 @@ FractionLess-same_left f g h pf pg ph s t = fraction_eq_lt f.num f.den g.num g.d
 -- the same number may stand on the right
 pub FractionLess-same_right : (f g h : Fraction) → IsFraction f → IsFraction g → IsFraction h → FractionLess f g → SameFraction g h → FractionLess f h
 FractionLess-same_right f g h pf pg ph s t = fraction_lt_eq f.num f.den g.num g.den h.num h.den pf pg ph s t
-
--- at most is not above, and the converse
-pub FractionAtMost-not_below : (f g : Fraction) → FractionAtMost f g ↔ ¬ FractionLess g f
-FractionAtMost-not_below f g = (λ h k. absurd (omega (arith, lin)), λ n. by_lt_z (g.num *ℤ f.den) (f.num *ℤ g.den) (λ k. absurd (n k)) (λ k. k))
 
 -- ---- lists of fractions
 

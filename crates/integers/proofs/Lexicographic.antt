@@ -5,7 +5,7 @@ use Rattle.std.proofs.lemmas.List.Elements.{All-nil, All-head, All-tail}
 use Rattle.std.proofs.Common.{◌≡◌, ◌⊎◌, inl, inr, ◌↔◌, ◌≤◌, length, List, [], ◌∷◌, All, ℤ, pos, negsuc, ◌+ℤ◌, ◌*ℤ◌, neg_ℤ, ◌≤ℤ◌, ◌<ℤ◌, sym, ap, ap₂, subst, ◌∙◌, arith}
 use Rattle.std.specs.List.{AllZip}
 use Rattle.integers.specs.Lexicographic.{IsLexPositive}
-use Rattle.integers.specs.Vector.{scale, add, row_step, weighted_sum, products, AreZero, AreNonNegative}
+use Rattle.integers.specs.Vector.{scale, add, row_step, weighted_sum, AreZero, AreNonNegative}
 use Rattle.integers.proofs.Laws.{lin, minus_one-*ℤ}
 use Rattle.integers.proofs.Order.{le_of_lt, mul_pos, pos_of_mul, zero_of_mul, lt_cases}
 use Rattle.integers.proofs.Vector.{row_step_lem}
@@ -38,24 +38,6 @@ IsLexPositive-scale c xs p = (to xs, from xs)
     from [] h = h
     from (x ∷ xs) (inl h) = inl (pos_of_mul x c p (subst (λ z. pos 0 <ℤ z) (*ℤ_comm c x) h))
     from (x ∷ xs) (inr h) = inr (zero_of_mul x c p (*ℤ_comm x c ∙ h.0), from xs h.1)
-
--- each number times a positive one keeps the signs
-pub IsLexPositive-products : (ds xs : List ℤ) → All (λ d. pos 0 <ℤ d) ds → length xs ≤ length ds → IsLexPositive xs ↔ IsLexPositive (products ds xs)
-IsLexPositive-products ds xs p l = (to ds xs p l, from ds xs p l)
-  where
-    to : (ds xs : List ℤ) → All (λ d. pos 0 <ℤ d) ds → length xs ≤ length ds → IsLexPositive xs → IsLexPositive (products ds xs)
-    to ds [] p l h = absurd h
-    to [] (x ∷ xs) p l h = absurd (omega arith)
-    to (d ∷ ds) (x ∷ xs) p l (inl h) = inl (mul_pos d x (All-head (λ d. pos 0 <ℤ d) d ds p) h)
-    to (d ∷ ds) (x ∷ xs) p l (inr h) = inr (ap (λ z. d *ℤ z) h.0 ∙ *ℤ-zero d, to ds xs (All-tail (λ d. pos 0 <ℤ d) d ds p) (omega arith) h.1)
-
-    from : (ds xs : List ℤ) → All (λ d. pos 0 <ℤ d) ds → length xs ≤ length ds → IsLexPositive (products ds xs) → IsLexPositive xs
-    from [] [] p l h = h
-    from (d ∷ ds) [] p l h = h
-    from [] (x ∷ xs) p l h = absurd h
-    from (d ∷ ds) (x ∷ xs) p l (inl h) = inl (pos_of_mul x d (All-head (λ d. pos 0 <ℤ d) d ds p) (subst (λ z. pos 0 <ℤ z) (*ℤ_comm d x) h))
-    from (d ∷ ds) (x ∷ xs) p l (inr h) =
-        inr (zero_of_mul x d (All-head (λ d. pos 0 <ℤ d) d ds p) (*ℤ_comm x d ∙ h.0), from ds xs (All-tail (λ d. pos 0 <ℤ d) d ds p) (omega arith) h.1)
 
 -- the first number is a positive multiple of the second
 abbrev pub IsMultiple : ℤ → ℤ → Type 0

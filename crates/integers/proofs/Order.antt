@@ -1,7 +1,7 @@
 -- Order and products: sums and products of signed facts, cancelling a positive factor, fractions by cross products.
 use lib.IntN.{zero-*ℤ}
 use Rattle.std.proofs.lemmas.Int.{by_lt_z}
-use Rattle.std.proofs.Common.{◌≡◌, ◌⊎◌, ◌↔◌, inl, inr, ℤ, pos, ◌*ℤ◌, ◌≤ℤ◌, ◌<ℤ◌, [], ◌∷◌, refl, sym, ap, subst, subst₂, ◌∙◌, arith}
+use Rattle.std.proofs.Common.{◌≡◌, ◌⊎◌, ◌↔◌, inl, inr, ℤ, pos, ◌*ℤ◌, ◌≤ℤ◌, ◌<ℤ◌, [], ◌∷◌, refl, sym, subst, ◌∙◌, arith}
 use Rattle.integers.proofs.Laws.{lin}
 use Rattle.integers.proofs.Ring.{neg, ◌⊗◌, ◌≗◌, ◌≼◌, ◌≺◌, ◌✶◌, ◌⇐◌, combine3, combine5, combine6}
 pub use Rattle.integers.proofs.Laws.{mul_nonneg, mul_pos}
@@ -66,22 +66,10 @@ fraction_lt_lt a b c d e f pb pd pf h k =
     cancel_lt (a *ℤ f) (e *ℤ b) d pd (combine6 (λ a b c d e f. a ⊗ f ⊗ d ≺ e ⊗ b ⊗ d ⇐ f ✶ (a ⊗ d ≺ c ⊗ b) ∷ b ✶ (c ⊗ f ≺ e ⊗ d) ∷ []) refl a b
     c d e f pf h pb k)
 
--- below, then at most
-pub fraction_lt_le : (a b c d e f : ℤ) → pos 0 <ℤ b → pos 0 <ℤ d → pos 0 <ℤ f → (a *ℤ d) <ℤ (c *ℤ b) → (c *ℤ f) ≤ℤ (e *ℤ d) → (a *ℤ f) <ℤ (e *ℤ b)
-fraction_lt_le a b c d e f pb pd pf h k =
-    cancel_lt (a *ℤ f) (e *ℤ b) d pd (combine6 (λ a b c d e f. a ⊗ f ⊗ d ≺ e ⊗ b ⊗ d ⇐ f ✶ (a ⊗ d ≺ c ⊗ b) ∷ b ✶ (c ⊗ f ≼ e ⊗ d) ∷ []) refl a b c d e f pf h
-    (le_of_lt (pos 0) b pb) k)
-
 -- below, then equal
 pub fraction_lt_eq : (a b c d e f : ℤ) → pos 0 <ℤ b → pos 0 <ℤ d → pos 0 <ℤ f → (a *ℤ d) <ℤ (c *ℤ b) → c *ℤ f ≡ e *ℤ d → (a *ℤ f) <ℤ (e *ℤ b)
 fraction_lt_eq a b c d e f pb pd pf h k =
     cancel_lt (a *ℤ f) (e *ℤ b) d pd (combine6 (λ a b c d e f. a ⊗ f ⊗ d ≺ e ⊗ b ⊗ d ⇐ f ✶ (a ⊗ d ≺ c ⊗ b) ∷ b ✶ (c ⊗ f ≗ e ⊗ d) ∷ []) refl a b c d e f pf h k)
-
--- at most, then below
-pub fraction_le_lt : (a b c d e f : ℤ) → pos 0 <ℤ b → pos 0 <ℤ d → pos 0 <ℤ f → (a *ℤ d) ≤ℤ (c *ℤ b) → (c *ℤ f) <ℤ (e *ℤ d) → (a *ℤ f) <ℤ (e *ℤ b)
-fraction_le_lt a b c d e f pb pd pf h k =
-    cancel_lt (a *ℤ f) (e *ℤ b) d pd (combine6 (λ a b c d e f. a ⊗ f ⊗ d ≺ e ⊗ b ⊗ d ⇐ f ✶ (a ⊗ d ≼ c ⊗ b) ∷ b ✶ (c ⊗ f ≺ e ⊗ d) ∷ []) refl a b c d e f
-    (le_of_lt (pos 0) f pf) h pb k)
 
 -- at most, then at most
 pub fraction_le_le : (a b c d e f : ℤ) → pos 0 <ℤ b → pos 0 <ℤ d → pos 0 <ℤ f → (a *ℤ d) ≤ℤ (c *ℤ b) → (c *ℤ f) ≤ℤ (e *ℤ d) → (a *ℤ f) ≤ℤ (e *ℤ b)
@@ -124,16 +112,3 @@ divided_same = combine5 (λ a b c d k. a ⊗ d ≗ c ⊗ b ⇐ d ✶ (a ≗ c �
 -- a positive divisor keeps the sign: positive
 pub divided_pos : (a c k : ℤ) → pos 0 <ℤ k → a ≡ c *ℤ k → pos 0 <ℤ a ↔ pos 0 <ℤ c
 divided_pos a c k p e = (λ h. pos_of_mul c k p (subst (λ x. pos 0 <ℤ x) e h), λ h. subst (λ x. pos 0 <ℤ x) (sym e) (mul_pos c k h p))
-
--- a positive divisor keeps the sign: not negative
-pub divided_nonneg : (a c k : ℤ) → pos 0 <ℤ k → a ≡ c *ℤ k → pos 0 ≤ℤ a ↔ pos 0 ≤ℤ c
-divided_nonneg a c k p e =
-    (λ h. nonneg_of_mul c k p (subst (λ x. pos 0 ≤ℤ x) e h), λ h. subst (λ x. pos 0 ≤ℤ x) (sym e) (mul_nonneg c k h (le_of_lt (pos 0) k p)))
-
--- a positive divisor keeps the sign: zero
-pub divided_zero : (a c k : ℤ) → pos 0 <ℤ k → a ≡ c *ℤ k → (a ≡ pos 0) ↔ (c ≡ pos 0)
-divided_zero a c k p e = (λ h. zero_of_mul c k p (sym e ∙ h), λ h. e ∙ ap (λ x. x *ℤ k) h ∙ zero-*ℤ k)
-
--- a common positive divisor of both sides of < goes
-pub divided_lt : (a b c d k : ℤ) → pos 0 <ℤ k → a ≡ c *ℤ k → b ≡ d *ℤ k → a <ℤ b ↔ c <ℤ d
-divided_lt a b c d k p e f = (λ h. cancel_lt c d k p (subst₂ (λ x y. x <ℤ y) e f h), λ h. subst₂ (λ x y. x <ℤ y) (sym e) (sym f) (mul_lt c d k p h))

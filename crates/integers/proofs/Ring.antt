@@ -232,39 +232,12 @@ pub ring8 : (fact : Expr → Expr → Expr → Expr → Expr → Expr → Expr �
     → (a b c d e f g h : ℤ) → Holds (a ∷ b ∷ c ∷ d ∷ e ∷ f ∷ g ∷ h ∷ []) (fact (var 0) (var 1) (var 2) (var 3) (var 4) (var 5) (var 6) (var 7))
 ring8 fact same a b c d e f g h = ring (a ∷ b ∷ c ∷ d ∷ e ∷ f ∷ g ∷ h ∷ []) (fact (var 0) (var 1) (var 2) (var 3) (var 4) (var 5) (var 6) (var 7)) same
 
--- an identity in 9 variables
-pub ring9 : (fact : Expr → Expr → Expr → Expr → Expr → Expr → Expr → Expr → Expr → Fact)
-    → Same (fact (var 0) (var 1) (var 2) (var 3) (var 4) (var 5) (var 6) (var 7) (var 8)) → (a b c d e f g h i : ℤ)
-    → Holds (a ∷ b ∷ c ∷ d ∷ e ∷ f ∷ g ∷ h ∷ i ∷ []) (fact (var 0) (var 1) (var 2) (var 3) (var 4) (var 5) (var 6) (var 7) (var 8))
-ring9 fact same a b c d e f g h i =
-    ring (a ∷ b ∷ c ∷ d ∷ e ∷ f ∷ g ∷ h ∷ i ∷ []) (fact (var 0) (var 1) (var 2) (var 3) (var 4) (var 5) (var 6) (var 7) (var 8)) same
-
 -- an identity in 10 variables
 pub ring10 : (fact : Expr → Expr → Expr → Expr → Expr → Expr → Expr → Expr → Expr → Expr → Fact)
     → Same (fact (var 0) (var 1) (var 2) (var 3) (var 4) (var 5) (var 6) (var 7) (var 8) (var 9)) → (a b c d e f g h i j : ℤ)
     → Holds (a ∷ b ∷ c ∷ d ∷ e ∷ f ∷ g ∷ h ∷ i ∷ j ∷ []) (fact (var 0) (var 1) (var 2) (var 3) (var 4) (var 5) (var 6) (var 7) (var 8) (var 9))
 ring10 fact same a b c d e f g h i j =
     ring (a ∷ b ∷ c ∷ d ∷ e ∷ f ∷ g ∷ h ∷ i ∷ j ∷ []) (fact (var 0) (var 1) (var 2) (var 3) (var 4) (var 5) (var 6) (var 7) (var 8) (var 9)) same
-
--- an identity in 11 variables
-pub ring11 : (fact : Expr → Expr → Expr → Expr → Expr → Expr → Expr → Expr → Expr → Expr → Expr → Fact)
-    → Same (fact (var 0) (var 1) (var 2) (var 3) (var 4) (var 5) (var 6) (var 7) (var 8) (var 9) (var 10)) → (a b c d e f g h i j k : ℤ)
-    → Holds (a ∷ b ∷ c ∷ d ∷ e ∷ f ∷ g ∷ h ∷ i ∷ j ∷ k ∷ []) (fact (var 0) (var 1) (var 2) (var 3) (var 4) (var 5) (var 6) (var 7) (var 8) (var 9) (var 10))
-ring11 fact same a b c d e f g h i j k =
-    ring (a ∷ b ∷ c ∷ d ∷ e ∷ f ∷ g ∷ h ∷ i ∷ j ∷ k ∷ []) (fact (var 0) (var 1) (var 2) (var 3) (var 4) (var 5) (var 6) (var 7) (var 8) (var 9) (var 10)) same
-
--- an identity in 12 variables
-pub ring12 : (fact : Expr → Expr → Expr → Expr → Expr → Expr → Expr → Expr → Expr → Expr → Expr → Expr → Fact)
-    → Same (fact (var 0) (var 1) (var 2) (var 3) (var 4) (var 5) (var 6) (var 7) (var 8) (var 9) (var 10) (var 11)) → (a b c d e f g h i j k l : ℤ)
-    → Holds (a ∷ b ∷ c ∷ d ∷ e ∷ f ∷ g ∷ h ∷ i ∷ j ∷ k ∷ l ∷ [])
-    (fact (var 0) (var 1) (var 2) (var 3) (var 4) (var 5) (var 6) (var 7) (var 8) (var 9) (var 10) (var 11))
-ring12 fact same a b c d e f g h i j k l =
-    ring (a ∷ b ∷ c ∷ d ∷ e ∷ f ∷ g ∷ h ∷ i ∷ j ∷ k ∷ l ∷ [])
-    (fact (var 0) (var 1) (var 2) (var 3) (var 4) (var 5) (var 6) (var 7) (var 8) (var 9) (var 10) (var 11)) same
-
--- a claim in 1 variable
-pub combine1 : (claim : Expr → Claim) → Follows (claim (var 0)) → (a : ℤ) → ClaimHolds (a ∷ []) (claim (var 0))
-combine1 claim follows a = combine (a ∷ []) (claim (var 0)) follows
 
 -- a claim in 2 variables
 pub combine2 : (claim : Expr → Expr → Claim) → Follows (claim (var 0) (var 1)) → (a b : ℤ) → ClaimHolds (a ∷ b ∷ []) (claim (var 0) (var 1))

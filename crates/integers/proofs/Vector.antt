@@ -145,15 +145,6 @@ same_from_unit_vectors xs ys e same =
 pub same_from_dot : (xs ys : List ℤ) → length xs ≡ length ys → ((us : List ℤ) → length us ≡ length xs → dot xs us ≡ dot ys us) → xs ≡ ys
 same_from_dot xs ys e same = same_from_unit_vectors xs ys e (λ j h. same (unit_vector (length xs) j) (length-unit_vector (length xs) j))
 
--- two forms, a constant plus a product, that agree at all lists have the same constant and the same coefficients
-pub same_from_forms : (xs ys : List ℤ) (b c : ℤ) → length xs ≡ length ys → ((us : List ℤ) → length us ≡ length xs → b +ℤ dot xs us ≡ c +ℤ dot ys us)
-    → (b ≡ c) × (xs ≡ ys)
-same_from_forms xs ys b c e same =
-    let n : ℕ = length xs in
-    let at_zero = same (replicate n (pos 0)) (length-replicate n (pos 0)) in
-    let constants : b ≡ c = omega (arith, lin, dot-zeros xs n, dot-zeros ys n) in
-    (constants, same_from_dot xs ys e (λ us l. let here = same us l in omega (arith, lin)))
-
 -- ---- two numbers among zeros
 
 -- n numbers, b at the place e, c at the place f and 0 elsewhere

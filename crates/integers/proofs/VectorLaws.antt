@@ -1,7 +1,7 @@
 -- Sums and multiples of lists: lengths, single numbers, and the laws that hold between them.
 use lib.IntN.{+ℤ_idl, +ℤ_idr, +ℤ_comm, +ℤ_assoc, *ℤ_comm, *ℤ-zero}
 use mathlib.Core.List.{cons≢nil, head-eq_of_cons-eq, tail-eq_of_cons-eq}
-use Rattle.std.proofs.Common.{◌≡◌, ℕ, zero, suc, ◌+◌, ◌<◌, ◌≤◌, All, max, length, get_or, set, replicate, map, List, [], ◌∷◌, ◌++◌, take, drop, ℤ, pos, ◌+ℤ◌, ◌-ℤ◌, ◌*ℤ◌, neg_ℤ, ◌<ℤ◌, refl, sym, ap, ap₂, ◌∙◌, arith, add-one, drop-cons}
+use Rattle.std.proofs.Common.{◌≡◌, ℕ, zero, suc, ◌<◌, ◌≤◌, All, max, length, get_or, set, replicate, map, List, [], ◌∷◌, ◌++◌, take, drop, ℤ, pos, ◌+ℤ◌, ◌-ℤ◌, ◌*ℤ◌, neg_ℤ, ◌<ℤ◌, refl, sym, ap, ap₂, ◌∙◌, arith}
 use Rattle.std.proofs.lemmas.List.Elements.{All-head, All-tail}
 use Rattle.integers.specs.Vector.{dot, scale, add, row_step, weighted_sum, dot_each, column_of, products, int_sum}
 use Rattle.integers.proofs.Laws.{lin, *ℤ_assoc, *ℤ-+ℤ, +ℤ-*ℤ, one-*ℤ, *ℤ-one}
@@ -149,14 +149,6 @@ scale_cancel c (x ∷ xs) [] p e = absurd (cons≢nil e)
 scale_cancel c (x ∷ xs) (y ∷ ys) p e =
     ap₂ (λ a b. a ∷ b) (cancel_eq x y c p (*ℤ_comm x c ∙ head-eq_of_cons-eq e ∙ *ℤ_comm c y)) (scale_cancel c xs ys p (tail-eq_of_cons-eq e))
 
--- a row step from a multiple of each row
-pub row_step-scale : (p q c : ℤ) (xs ys : List ℤ) → row_step p q (scale c xs) (scale c ys) ≡ scale c (row_step p q xs ys)
-row_step-scale p q c xs ys =
-    let left : (z : ℤ) (zs : List ℤ) → scale z (scale c zs) ≡ scale c (scale z zs) =
-    λ z zs. scale-scale z c zs ∙ ap (λ d. scale d zs) (*ℤ_comm z c) ∙ sym (scale-scale c z zs) in
-    row_step_lem p q (scale c xs) (scale c ys) ∙ ap₂ add (left p xs) (left (neg_ℤ q) ys) ∙ sym (scale-add c (scale p xs) (scale (neg_ℤ q) ys))
-    ∙ ap (scale c) (sym (row_step_lem p q xs ys))
-
 -- a multiple of a row step takes both factors as often
 pub scale-row_step : (c p q : ℤ) (xs ys : List ℤ) → scale c (row_step p q xs ys) ≡ row_step (p *ℤ c) (q *ℤ c) xs ys
 scale-row_step c p q [] ys = scale-scale c (neg_ℤ q) ys ∙ ap (λ z. scale z ys) (ring2 (λ c q. c ⊗ neg q ≗ neg (q ⊗ c)) refl c q)
@@ -235,15 +227,6 @@ dot-split (suc i) [] us = refl
 dot-split (suc i) (x ∷ xs) [] = sym (+ℤ_idl (dot (drop i xs) []) ∙ dot-nil (drop i xs))
 dot-split (suc i) (x ∷ xs) (u ∷ us) =
     ap (λ z. x *ℤ u +ℤ z) (dot-split i xs us) ∙ sym (+ℤ_assoc (x *ℤ u) (dot (take i xs) (take i us)) (dot (drop i xs) (drop i us)))
-
--- the step of a loop: the product of what is left from the place i on
-pub dot-drop_more : (i : ℕ) (xs us : List ℤ) → i < length xs → i < length us
-    → dot (drop i xs) (drop i us) ≡ get_or xs i (pos 0) *ℤ get_or us i (pos 0) +ℤ dot (drop (i + 1) xs) (drop (i + 1) us)
-dot-drop_more i xs us h k = rw (add-one, drop-cons xs i (pos 0), drop-cons us i (pos 0))
-
--- the step of a loop: the sum of what is left
-pub int_sum-drop_more : (i : ℕ) (xs : List ℤ) → i < length xs → int_sum (drop i xs) ≡ get_or xs i (pos 0) +ℤ int_sum (drop (i + 1) xs)
-int_sum-drop_more i xs h = rw (add-one, drop-cons xs i (pos 0))
 
 -- for `simp` and `omega`: the lengths
 pub ruleset length_laws = (length-scale, length-add, length-row_step, length-dot_each, length-column_of)

@@ -1,12 +1,12 @@
 -- Lists of numbers that are at least 0, or each at most another: what follows for dot products, up to weak duality.
-use lib.IntN.{zero-*ℤ, *ℤ_comm, *ℤ-zero}
+use lib.IntN.{zero-*ℤ, *ℤ-zero}
 use Rattle.std.specs.Int.Signed.{≤ℤ_refl, <ℤ_irrefl}
 use Rattle.std.proofs.lemmas.List.Elements.{All-nil, All-cons, All-head, All-tail, All-from_get_or}
 use Rattle.std.proofs.Common.{◌≡◌, ◌⊎◌, inl, inr, ◌<◌, length, replicate, All, refl, ap, negsuc, ℕ, zero, suc, get_or, List, [], ◌∷◌, ℤ, pos, ◌*ℤ◌, ◌≤ℤ◌, ◌<ℤ◌, ◌↔◌, sym, subst, subst₂, ◌∙◌, arith}
 use Rattle.integers.specs.Vector.{dot, scale, add, weighted_sum, dot_each, int_sum, AreNonNegative, AreAtMost}
 use Rattle.integers.proofs.Laws.{lin, minus_one-*ℤ}
 use Rattle.integers.proofs.Order.{mul_nonneg, mul_pos, mul_le, le_trans, lt_cases}
-use Rattle.integers.proofs.VectorLaws.{get_or-scale, get_or-add}
+use Rattle.integers.proofs.VectorLaws.{get_or-scale}
 use Rattle.integers.proofs.Vector.{dot_comm, dot-scale, dot-scale_right, dot-weighted_sum}
 
 -- a number at a place is not negative
@@ -166,29 +166,12 @@ pub AreAtMost-nil : (xs : List ℤ) → All (λ c. c ≤ℤ pos 0) xs → AreAtM
 AreAtMost-nil [] h = tt
 AreAtMost-nil (x ∷ xs) h = (All-head (λ c. c ≤ℤ pos 0) x xs h, AreAtMost-nil xs (All-tail (λ c. c ≤ℤ pos 0) x xs h))
 
--- a multiple, by a factor that is not negative
-pub AreAtMost-scale : (c : ℤ) (xs ys : List ℤ) → pos 0 ≤ℤ c → AreAtMost xs ys → AreAtMost (scale c xs) (scale c ys)
-AreAtMost-scale c xs ys p h =
-    AreAtMost-from_at (scale c xs) (scale c ys) (λ i. subst₂ (λ a b. a ≤ℤ b) (*ℤ_comm (get_or xs i (pos 0)) c ∙ sym (get_or-scale c xs i))
-    (*ℤ_comm (get_or ys i (pos 0)) c ∙ sym (get_or-scale c ys i)) (mul_le (get_or xs i (pos 0)) (get_or ys i (pos 0)) c p (AreAtMost-at xs ys h i)))
-
--- a sum of facts
-pub AreAtMost-add : (xs ys us vs : List ℤ) → AreAtMost xs ys → AreAtMost us vs → AreAtMost (add xs us) (add ys vs)
-AreAtMost-add xs ys us vs h k = AreAtMost-from_at (add xs us) (add ys vs) (λ i.
-    let p = AreAtMost-at xs ys h i in
-    let q = AreAtMost-at us vs k i in
-    omega (arith, lin, get_or-add xs us i, get_or-add ys vs i))
-
 -- sums keep the order
 pub int_sum_le : (xs ys : List ℤ) → AreAtMost xs ys → int_sum xs ≤ℤ int_sum ys
 int_sum_le [] [] h = ≤ℤ_refl (pos 0)
 int_sum_le [] (y ∷ ys) h = let first = h.0 in let rest = int_sum_le [] ys h.1 in omega (arith, lin)
 int_sum_le (x ∷ xs) [] h = let first = h.0 in let rest = int_sum_le xs [] h.1 in omega (arith, lin)
 int_sum_le (x ∷ xs) (y ∷ ys) h = let first = h.0 in let rest = int_sum_le xs ys h.1 in omega (arith, lin)
-
--- the sum of numbers at least 0 is at least 0
-pub int_sum_nonneg : (xs : List ℤ) → AreNonNegative xs → pos 0 ≤ℤ int_sum xs
-int_sum_nonneg xs h = int_sum_le [] xs ((AreNonNegative-at_most xs).0 h)
 
 -- ---- weak duality
 

@@ -7,7 +7,7 @@ use Rattle.integers.specs.Vector.{scale, int_sum, running_sums}
 use Rattle.integers.proofs.Laws.{lin}
 use Rattle.integers.proofs.Order.{mul_pos}
 use Rattle.integers.proofs.Ring.{◌⊕◌, ◌⊗◌, ◌≗◌, ◌✶◌, ◌⇐◌, ring3, combine7}
-use Rattle.integers.proofs.Fractions.{SameFractions-refl, SameFractions-sym, SameFractions-trans, SameFractions-length, length-over, AreFractions-over, SameFractions-over, SameFractions-over_scale}
+use Rattle.integers.proofs.Fractions.{SameFractions-sym, SameFractions-trans, SameFractions-length, length-over, AreFractions-over, SameFractions-over, SameFractions-over_scale}
 
 -- ---- each list of fractions has a writing
 
@@ -63,33 +63,9 @@ any_writing P keeps fs w n v m p h k = (step w n v m h.den_pos k.den_pos cross, 
 
 -- ---- writings of other lists
 
--- a list over a positive denominator is its own
-pub IsWriting-over : (w : List ℤ) (n : ℤ) → pos 0 <ℤ n → IsWriting (over w n) w n
-IsWriting-over w n p = record { den_pos = p; same = SameFractions-refl (over w n) }
-
--- a positive multiple
-pub IsWriting-scale : (c : ℤ) (fs : List Fraction) (w : List ℤ) (n : ℤ) → pos 0 <ℤ c → AreFractions fs → IsWriting fs w n → IsWriting fs (scale c w) (c *ℤ n)
-IsWriting-scale c fs w n pc p h = record {
-  den_pos = mul_pos c n pc h.den_pos;
-  same =
-      SameFractions-trans (over (scale c w) (c *ℤ n)) (over w n) fs (AreFractions-over (scale c w) (c *ℤ n) (mul_pos c n pc h.den_pos))
-      (AreFractions-over w n h.den_pos) p (SameFractions-sym (over w n) (over (scale c w) (c *ℤ n)) (SameFractions-over_scale c w n)) h.same;
-}
-
--- of the same fractions
-pub IsWriting-respects : (fs gs : List Fraction) (w : List ℤ) (n : ℤ) → AreFractions fs → AreFractions gs → SameFractions fs gs → IsWriting fs w n
-    → IsWriting gs w n
-IsWriting-respects fs gs w n pf pg s h =
-    record { den_pos = h.den_pos; same = SameFractions-trans (over w n) fs gs (AreFractions-over w n h.den_pos) pf pg h.same s }
-
 -- as many numbers as fractions
 pub IsWriting-length : (fs : List Fraction) (w : List ℤ) (n : ℤ) → IsWriting fs w n → length w ≡ length fs
 IsWriting-length fs w n h = sym (length-over w n) ∙ SameFractions-length (over w n) fs h.same
-
--- one more fraction in front
-pub IsWriting-cons : (f : Fraction) (fs : List Fraction) (x : ℤ) (w : List ℤ) (n : ℤ) → IsWriting (f ∷ fs) (x ∷ w) n
-    ↔ SameFraction (record { num = x; den = n }) f × IsWriting fs w n
-IsWriting-cons f fs x w n = (λ h. (h.same.0, record { den_pos = h.den_pos; same = h.same.1 }), λ h. record { den_pos = h.1.den_pos; same = (h.0, h.1.same) })
 
 -- two lists, one after the other, over one denominator
 pub IsWriting-append : (fs gs : List Fraction) (w v : List ℤ) (n : ℤ) → IsWriting fs w n → IsWriting gs v n → IsWriting (fs ++ gs) (w ++ v) n

@@ -1,5 +1,6 @@
--- The ways to choose k of n numbers.
-use Rattle.std.specs.Prelude.{ℕ, zero, suc, ◌+◌, List, [], ◌∷◌, ◌++◌, map}
+-- The ways to choose k of n numbers, and to put n numbers in order.
+use Rattle.std.specs.Prelude.{◌≡◌, ℕ, zero, suc, ◌+◌, ◌<◌, eqb, List, [], ◌∷◌, ◌++◌, length, map, All}
+use Rattle.std.specs.List.{IsDistinct}
 
 -- each rising list of k of the n numbers from a on, once
 abbrev pub choices_from : ℕ → ℕ → ℕ → List (List ℕ)
@@ -21,3 +22,9 @@ choose (suc n) (suc k) = choose n k + choose n (suc k)
 abbrev pub numbers_from : ℕ → ℕ → List ℕ
 numbers_from a zero = []
 numbers_from a (suc n) = a ∷ numbers_from (suc a) n
+
+-- each of the first n numbers stands once
+pub record IsOrder (n : ℕ) (order : List ℕ) : Type 0 where
+  pub each : length order ≡ n
+  pub within : All (λ c. c < n) order
+  pub once : IsDistinct eqb order

@@ -32,7 +32,7 @@ use Rattle.lp_macbeth.specs.declared.kinds.Kind.TheVariants.{At, Zero, Below}
 use Rattle.lp_macbeth.specs.Gaps.{gap_coefs, opposite}
 use Rattle.lp_macbeth.specs.Rows.{row_of, judged_rows, problem_of}
 use Rattle.lp_macbeth.specs.Threshold.{threshold, threshold_step, threshold_rows, threshold_row_of, threshold_problem_of, IsThresholdTagOf}
-use Rattle.lp_macbeth.specs.Passing.{with_entries, after_spread, ranges, threshold_weights, own_weights, own_numbers}
+use Rattle.lp_macbeth.specs.Passing.{with_entries, after_spread, ranges, own_weights}
 use Rattle.lp_macbeth.specs.Translated.{IsCarried, ProvesThreshold}
 use Rattle.lp_macbeth.proofs.CoefLemmas.{length-gap_coefs, length-opposite}
 use Rattle.lp_macbeth.proofs.ThresholdTagLemmas.{All-threshold_rows}
@@ -42,6 +42,16 @@ use Rattle.lp_macbeth.proofs.PassLemmas.{from, from_falls, AreCovered}
 use Rattle.lp_macbeth.proofs.WeightLemmas.{whole, numbers, AreOf, AreNone, spread-none}
 use Rattle.lp_macbeth.proofs.RowSumLemmas.{entries-dot, ats_of, equals_of, belows_of}
 use Rattle.lp_macbeth.proofs.OwnRows.{parts_are_of, length-own_weights, own_number, threshold_number, threshold_number-dot, carried-dot, IsProblem-own}
+
+-- ---- the weights of a certificate
+
+-- a weight for each row of the threshold problem
+abbrev pub threshold_weights : Judgements → List (ℕ × ℤ) → List ℕ
+threshold_weights m on = with_entries (replicate (length (threshold_rows m)) 0) on
+
+-- the weights of the matrix's own rows that they make, as whole numbers
+abbrev pub own_numbers : Judgements → List (ℕ × ℤ) → List ℤ
+own_numbers m on = map (λ w. pos w) (own_weights (ranges m) (threshold_weights m on))
 
 -- ---- numbers of rows by their tags
 

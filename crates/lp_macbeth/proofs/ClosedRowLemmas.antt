@@ -1,5 +1,5 @@
 -- The closed problem of a criterion is a problem: one number for each gap and for the room, each in range.
-use Rattle.std.proofs.Common.{◌≡◌, ◌≢◌, ◌⊎◌, inl, inr, ℕ, zero, suc, ◌+◌, ◌-◌, ◌<◌, ◌≤◌, ℤ, pos, negsuc, neg_ℤ, ◌≤ℤ◌, List, [], ◌∷◌, ◌++◌, length, replicate, All, refl, ◌∙◌, arith, unsigned_abs}
+use Rattle.std.proofs.Common.{◌≡◌, ◌≢◌, ◌⊎◌, inl, inr, ℕ, zero, suc, ◌+◌, ◌-◌, ◌<◌, ◌≤◌, ℤ, pos, negsuc, neg_ℤ, ◌≤ℤ◌, List, [], ◌∷◌, ◌++◌, length, replicate, All, ◌∙◌, arith, unsigned_abs}
 use Rattle.std.proofs.lemmas.Bool.{cases_lt, lt-ltb, le-ltb}
 use Rattle.std.proofs.lemmas.List.{length-append, length-replicate}
 use Rattle.std.proofs.lemmas.List.Elements.{All-nil, All-cons, All-append, All-replicate}
@@ -128,10 +128,3 @@ IsCost-closed n a b apart ha hb = by_order (cases_lt a b)
         rw (le-ltb a b g) (costs_with_room n (outer_coefs n b a) (pos 1) (omega arith) (length-outer_coefs n b a in_n)
         (copies_keep (λ z. pos 0 ≤ℤ z) (n - a) (a - b) (b - 1) (pos 1) (pos 0) (omega (arith, lin)) (omega (arith, lin)))
         (copies_keep IsInRange (n - a) (a - b) (b - 1) (pos 1) (pos 0) one zero_in_range) (omega (arith, lin)) one)
-
--- the cost of a listed above b, and of b listed above a
-pub cost_above : (n a b : ℕ) → a < b → closed_cost n a b ≡ gap_coefs n a b ++ pos 0 ∷ []
-cost_above n a b l = rw (lt-ltb a b l) refl
-
-pub cost_below : (n a b : ℕ) → b ≤ a → closed_cost n a b ≡ outer_coefs n b a ++ pos 1 ∷ []
-cost_below n a b g = rw (le-ltb a b g) refl

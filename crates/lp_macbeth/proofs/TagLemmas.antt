@@ -5,7 +5,6 @@ use Rattle.std.proofs.Common.{◌≡◌, ℕ, suc, ◌+◌, ◌-◌, ◌<◌, Bo
 use Rattle.std.proofs.Math.Seq.{drop-cons}
 use Rattle.std.proofs.lemmas.List.{map-append, get_or-map}
 use Rattle.std.proofs.lemmas.List.Elements.{filter-append, All-append}
-use Rattle.std.proofs.lemmas.Grind.{flat_map-append}
 use Rattle.integers.specs.Counting.{numbers_from}
 use Rattle.integers.proofs.Numbers.{length-numbers_from, get_or-numbers_from}
 use Rattle.integers.proofs.Loops.{join_next}
@@ -31,10 +30,6 @@ zero_rows_of-append m ps qs =
     ap (map (λ (pair : ℕ × ℕ). Zero pair.0 pair.1)) (filter-append (λ (pair : ℕ × ℕ). (range_at m pair.0 pair.1).hi == 0) ps qs)
     ∙ map-append (λ (pair : ℕ × ℕ). Zero pair.0 pair.1) (filter (λ (pair : ℕ × ℕ). (range_at m pair.0 pair.1).hi == 0) ps)
     (filter (λ (pair : ℕ × ℕ). (range_at m pair.0 pair.1).hi == 0) qs)
-
-pub cross_rows_of-append : (m : Judgements) (rights ps qs : List (ℕ × ℕ))
-    → cross_rows_of m (ps ++ qs) rights ≡ cross_rows_of m ps rights ++ cross_rows_of m qs rights
-cross_rows_of-append m rights ps qs = flat_map-append (λ left. cross_rows_under m left rights) ps qs
 
 -- for the code's loops
 pub ruleset lower_joins = (lower_rows_of-append)

@@ -24,7 +24,8 @@ use Rattle.judgement_matrix.specs.declared.tag.Tag.{Tag}
 use Rattle.lp_macbeth.specs.Closed.{closed_tags}
 use Rattle.lp_macbeth.specs.Gaps.{heights, scale_of, gaps_of}
 use Rattle.lp_macbeth.specs.Rows.{row_of}
-use Rattle.lp_macbeth.specs.ClosedWeighting.{IsOrder, in_order, weighting_row_of, falling, sum_up, sum_down, weighting_problem_of, least_of, checked_excesses, checked_multiple, checked_numerators, checked_costs, checked_weighting, differences_from, weights_of, IsLeastOf, AreCostNumbers, weighted_gap, IsClosedWeighting}
+use Rattle.integers.specs.Counting.{IsOrder}
+use Rattle.lp_macbeth.specs.ClosedWeighting.{in_order, weighting_row_of, falling, sum_up, sum_down, weighting_problem_of, least_of, checked_excesses, checked_multiple, checked_numerators, checked_costs, checked_weighting, differences_from, weights_of, IsLeastOf, AreCostNumbers, weighted_gap, IsClosedWeighting}
 use Rattle.lp_macbeth.specs.declared.weighting.ClosedWeighting.{ClosedWeighting}
 use Rattle.lp_macbeth.proofs.ClosedLemmas.{compared_iff_met, two_rows}
 use Rattle.lp_macbeth.proofs.CostLemmas.{AreExcesses, excesses_are, IsCommon, multiple_is, AreNumerators, numerators_are, AreCosts, costs_are}

@@ -1,11 +1,9 @@
 -- The problem that asks for the least weighted sum of the criteria's least gaps over the closure of the open
 -- weightings: lists of weights, none below 0, of sum 1, that meet the weighting matrix in some unit of at least 0.
 -- Costs are whole numbers: each least gap less the least of all, over one denominator.
-use Rattle.std.specs.Prelude.{◌≡◌, ℕ, zero, suc, ◌-◌, ◌<◌, eqb, true, false, ℤ, pos, ◌+ℤ◌, ◌*ℤ◌, int_div, neg_ℤ, List, [], ◌∷◌, ◌++◌, length, map, reverse, slice_index_or, All, Contains, Result, Ok, Err, IsTrue}
-use Rattle.std.specs.List.{IsDistinct}
+use Rattle.std.specs.Prelude.{◌≡◌, ℕ, zero, suc, ◌-◌, true, false, ℤ, pos, ◌+ℤ◌, ◌*ℤ◌, int_div, neg_ℤ, List, [], ◌∷◌, ◌++◌, length, map, reverse, slice_index_or, All, Contains, Result, Ok, Err}
 use Rattle.std.specs.Ordering.{int_cmp}
 use Rattle.std.specs.declared.cmp.Ordering.TheVariants.{Less, Equal, Greater}
-use Rattle.std.specs.Result.{is_err}
 use Rattle.frac128.specs.Checked.{◌>>=◌, checked_difference}
 use Rattle.frac128.specs.Problem.{ProblemData}
 use Rattle.frac128.specs.Range.{is_in_range}
@@ -23,12 +21,6 @@ use Rattle.lp_macbeth.specs.Rows.{row_of}
 use Rattle.lp_macbeth.specs.declared.weighting.ClosedWeighting.{ClosedWeighting}
 use Rattle.lp_macbeth.specs.declared.weighting.WeightingFault.{WeightingFault}
 use Rattle.lp_macbeth.specs.declared.weighting.WeightingFault.TheVariants as fault
-
--- each of the first n numbers stands once
-pub record IsOrder (n : ℕ) (order : List ℕ) : Type 0 where
-  pub each : length order ≡ n
-  pub within : All (λ c. c < n) order
-  pub once : IsDistinct eqb order
 
 -- what belongs to each criterion, from the first of the order to the last
 abbrev pub in_order : {A : Type 0} → A → List ℕ → List A → List A
@@ -127,11 +119,10 @@ checked_weighting m order gaps = do
   cost ← checked_costs (in_order (pos 0) order numerators)
   Ok (record { problem = weighting_problem_of m cost; scale = l; least = least_of gaps })
 
--- what a formula gives is answered, or that it is too wide; or memory is wanted
-abbrev pub Gives : {V X : Type 0} → (V → X) → Result X TooWide → Result V WeightingFault → Type 0
-Gives items worked (Ok given) = worked ≡ Ok (items given)
-Gives items worked (Err fault.TooWide) = IsTrue (is_err worked)
-Gives items worked (Err fault.NoMemory) = Unit {0}
+-- of a formula a fault says that it is too wide, or nothing as memory is wanted
+abbrev pub FaultSays : WeightingFault → Type 0 → Type 0
+FaultSays fault.TooWide wide = wide
+FaultSays fault.NoMemory wide = Unit {0}
 
 -- ---- what they mean
 

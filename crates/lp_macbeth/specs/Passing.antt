@@ -1,9 +1,8 @@
 -- Weights of pairs of elements, each a category with a number, and how the pairs that begin at a category take weight
 -- off those that end below it.
-use Rattle.std.specs.Prelude.{ℕ, zero, suc, ◌-◌, ◌==◌, Bool, cond, nat_le, nat_lt, ◌&&◌, unsigned_abs, ℤ, pos, List, [], ◌∷◌, ◌++◌, map, filter, length, replicate, get_or, set, drop}
+use Rattle.std.specs.Prelude.{ℕ, zero, suc, ◌-◌, ◌==◌, Bool, cond, nat_le, nat_lt, ◌&&◌, unsigned_abs, ℤ, List, [], ◌∷◌, ◌++◌, map, filter, get_or, set, drop}
 use Rattle.judgement_matrix.specs.Range.{Bounds}
 use Rattle.judgement_matrix.specs.Matrix.{Judgements, pairs, range_at}
-use Rattle.lp_macbeth.specs.Threshold.{threshold_rows}
 use Rattle.lp_macbeth.specs.declared.kinds.Kind.{Kind}
 use Rattle.lp_macbeth.specs.declared.kinds.Kind.TheVariants.{At, Zero, Below}
 
@@ -84,10 +83,6 @@ at_zero xs = map (λ x. x.1) (filter (λ x. x.0 == 0) xs)
 abbrev pub ranges : Judgements → List Bounds
 ranges m = map (λ pair. range_at m pair.0 pair.1) (pairs m.size)
 
--- a weight for each row of the threshold problem
-abbrev pub threshold_weights : Judgements → List (ℕ × ℤ) → List ℕ
-threshold_weights m on = with_entries (replicate (length (threshold_rows m)) 0) on
-
 -- the weights of the matrix's own rows, given those of the threshold problem
 abbrev pub own_weights : List Bounds → List ℕ → List ℕ
 own_weights ranges weights =
@@ -95,7 +90,3 @@ own_weights ranges weights =
     let ats : List (ℕ × ℕ) = spread At ranges weights in
     let belows : List (ℕ × ℕ) = spread Below ranges (after_spread Zero ranges after_at) in
     lefts ats belows ++ at_zero (spread Zero ranges after_at) ++ takings ats belows
-
--- the same as whole numbers
-abbrev pub own_numbers : Judgements → List (ℕ × ℤ) → List ℤ
-own_numbers m on = map (λ w. pos w) (own_weights (ranges m) (threshold_weights m on))

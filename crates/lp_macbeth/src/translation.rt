@@ -5,7 +5,7 @@ ghost use Rattle.frac128.specs.Entries.{entries_from};
 ghost use Rattle.frac128.specs.Problem.{AreRowMultipliers};
 ghost use Rattle.judgement_matrix.specs.Matrix.{range_at};
 ghost use Rattle.lp_macbeth.specs.Pairs.{ArePairs};
-ghost use Rattle.lp_macbeth.specs.Passing.{with_entries, spread as spread_over, after_spread, at_zero, ranges as ranges_of, own_weights, own_numbers};
+ghost use Rattle.lp_macbeth.specs.Passing.{with_entries, spread as spread_over, after_spread, at_zero, ranges as ranges_of, own_weights};
 ghost use Rattle.lp_macbeth.specs.Translated.{IsCarried, ProvesThreshold};
 
 use crate::kinds::Kind;

@@ -1,12 +1,14 @@
 //! The closed problem of a weighting: the least weighted sum of the criteria's least gaps over the closure of its open weightings.
 
 ghost use Rattle.std.specs.Prelude.{◌≡◌, ◌++◌, ◌∷◌, [], ◌-◌, ◌≤◌, ◌<◌, pos, ◌*ℤ◌, ◌+ℤ◌, ◌<ℤ◌, int_div, length, map, All, IfOk};
+ghost use Rattle.frac128.specs.Checked.{Gives};
 ghost use Rattle.frac128.specs.Problem.{IsRow};
 ghost use Rattle.frac128.specs.Range.{IsInRange};
+ghost use Rattle.integers.specs.Counting.{IsOrder};
 ghost use Rattle.integers.specs.Divisibility.{gcd_of};
 ghost use Rattle.integers.specs.Vector.{AreNonNegative};
 ghost use Rattle.judgement_matrix.specs.Rows.{IsTagAmong};
-ghost use Rattle.lp_macbeth.specs.ClosedWeighting.{IsOrder, in_order, weighting_row_of, falling, sum_up, sum_down, weighting_problem_of, checked_whole, lesser, least_of, checked_excesses, checked_multiple, checked_numerators, checked_costs, checked_weighting, Gives};
+ghost use Rattle.lp_macbeth.specs.ClosedWeighting.{in_order, weighting_row_of, falling, sum_up, sum_down, weighting_problem_of, checked_whole, lesser, least_of, checked_excesses, checked_multiple, checked_numerators, checked_costs, checked_weighting, FaultSays};
 ghost use Rattle.lp_macbeth.specs.Gaps.{opposite};
 
 use crate::closed::push_coefs;
@@ -82,8 +84,7 @@ pub fn closed_weighting(
     requires gaps { length gaps.now ≡ matrix.now.size - 1 }
     requires some { 1 ≤ length gaps.now }
     requires order { IsOrder (length gaps.now) order.now }
-    ensures { Gives (λ closed. closed)
-        (checked_weighting matrix.now order.now gaps.now) result }
+    ensures { Gives FaultSays (λ v. v) (checked_weighting matrix.now order.now gaps.now) result }
 {
     // For the proofs alone: the denominators are positive.
     are_fractions(gaps);
@@ -142,7 +143,7 @@ fn least(fractions: &[Frac]) -> Frac
 // Each gap less the least one.
 #[tactic(auto, unfolding(crate::specs::ClosedWeighting::checked_excesses))]
 fn excesses(alloc: Global, gaps: &[Frac], least: &Frac) -> Result<Vec<Frac>, WeightingFault>
-    ensures { Gives (λ excesses. excesses.items) (checked_excesses least.now gaps.now) result }
+    ensures { Gives FaultSays (λ v. v.items) (checked_excesses least.now gaps.now) result }
 {
     let mut excesses = Vec::new(alloc);
     for gap in gaps {
@@ -197,7 +198,7 @@ fn numerators(
     excesses: &[Frac],
     scale: Number,
 ) -> Result<Vec<Number>, WeightingFault>
-    ensures { Gives (λ numbers. numbers.items) (checked_numerators scale excesses.now) result }
+    ensures { Gives FaultSays (λ v. v.items) (checked_numerators scale excesses.now) result }
 {
     let mut numerators = Vec::new(alloc);
     for excess in excesses {
@@ -211,7 +212,7 @@ fn numerators(
 #[tactic(auto, unfolding(crate::specs::ClosedWeighting::checked_costs, crate::specs::ClosedWeighting::checked_sums))]
 fn costs(alloc: Global, order: &[usize], numerators: &[Number]) -> Result<Vec<i128>, WeightingFault>
     requires { All (λ c. c < length numerators.now) order.now }
-    ensures { Gives (λ costs. costs.items)
+    ensures { Gives FaultSays (λ v. v.items)
         (checked_costs (in_order (pos 0) order.now numerators.now)) result }
 {
     let mut total = Number::ZERO;

@@ -1,5 +1,5 @@
 ghost use Rattle.std.specs.Prelude.{◌≡◌, IfOk};
-ghost use Rattle.lp_macbeth.specs.ClosedWeighting.{IsOrder};
+ghost use Rattle.integers.specs.Counting.{IsOrder};
 
 use crate::{ClosedWeighting, WeightingFault, closed_weighting};
 use frac128::Frac;

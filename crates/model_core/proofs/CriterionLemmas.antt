@@ -3,7 +3,8 @@ use Rattle.std.proofs.Common.{◌≡◌, ℕ, zero, suc, ◌+◌, ◌<◌, ◌�
 use Rattle.std.proofs.lemmas.Bool.{cases_lt}
 use Rattle.std.proofs.lemmas.List.{length-map, get_or-map}
 use Rattle.std.proofs.lemmas.List.Edits.{length-remove, get_or-remove_below, get_or-remove_above}
-use Rattle.model_core.specs.State.{CriterionState, ModelState, IsRow, IsOrder, IsModel, no_criterion}
+use Rattle.integers.specs.Counting.{IsOrder}
+use Rattle.model_core.specs.State.{CriterionState, ModelState, IsRow, IsModel, no_criterion}
 use Rattle.model_core.specs.Edits.{with_criterion, without_criterion}
 use Rattle.model_core.specs.declared.limits.TheConstants.{CRITERIA}
 use Rattle.model_core.proofs.OrderLemmas.{IsOrder-push, IsOrder-without}

@@ -7,7 +7,8 @@ use Rattle.judgement_matrix.specs.Matrix.{unjudged}
 use Rattle.model_core.specs.Lists.{changed_at}
 use Rattle.model_core.specs.declared.limits.TheConstants.{CRITERIA, GROUPS}
 use Rattle.model_core.proofs.RosterLemmas.{length-changed}
-use Rattle.model_core.specs.State.{CriterionState, GroupState, ModelState, IsOrder, IsModel, AreGroups, no_criterion, elements_of, parent_of}
+use Rattle.integers.specs.Counting.{IsOrder}
+use Rattle.model_core.specs.State.{CriterionState, GroupState, ModelState, IsModel, AreGroups, no_criterion, elements_of, parent_of}
 
 pub IsModel-empty : IsModel (record { options = []; criteria = []; groups = []; performances = []; order = []; weighting = unjudged 1 })
 unfolding IsDistinct

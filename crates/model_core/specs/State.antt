@@ -1,9 +1,9 @@
 -- The model as the contracts see it: plain lists in one record. Options, criteria and groups count from 0; elements of a criterion
 -- and places of the weighting count from 1.
-use Rattle.std.specs.Prelude.{◌≡◌, ℕ, ◌+◌, ◌<◌, ◌≤◌, Bool, false, ◌||◌, eqb, List, [], Option, Some, None, length, slice_get, slice_index_or, All, codes}
-use Rattle.std.specs.List.{IsDistinct}
+use Rattle.std.specs.Prelude.{◌≡◌, ℕ, ◌+◌, ◌<◌, ◌≤◌, Bool, false, ◌||◌, List, [], Option, Some, None, length, slice_get, slice_index_or, All, codes}
 use Rattle.std.specs.Option.{option_and_then}
 use Rattle.std.specs.Str.{bytes_eq}
+use Rattle.integers.specs.Counting.{IsOrder}
 use Rattle.word_table.specs.Words.{AreApart}
 use Rattle.judgement_matrix.specs.Matrix.{Judgements, unjudged}
 use Rattle.judgement_matrix.specs.declared.matrix.TheConstants.{LIMIT}
@@ -63,12 +63,6 @@ elements_of criteria c = (slice_index_or criteria c no_criterion).elements
 pub record IsRow (criteria : List CriterionState) (row : List (Option ℕ)) : Type 0 where
   pub each : length row ≡ length criteria
   pub performed : (c e : ℕ) → slice_index_or row c None ≡ Some e → (1 ≤ e) × (e ≤ length (elements_of criteria c))
-
--- each of the first n numbers stands once
-pub record IsOrder (n : ℕ) (order : List ℕ) : Type 0 where
-  pub each : length order ≡ n
-  pub within : All (λ c. c < n) order
-  pub once : IsDistinct eqb order
 
 -- the group that a group belongs to
 abbrev pub parent_of : List GroupState → ℕ → Option ℕ

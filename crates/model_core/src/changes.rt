@@ -2,7 +2,8 @@
 ghost use Rattle.std.specs.Prelude.{◌≡◌, ◌+◌, ◌<◌, ◌≤◌, length, IfSome, None, map, remove, ◌++◌, ◌∷◌, [], OnOk, OnErr, All, nat_lt, ◌-◌, if◌then◌else◌};
 ghost use Rattle.judgement_matrix.specs.Matrix.{Judgements, IsPair, judged, cleared, unjudged};
 ghost use Rattle.judgement_matrix.specs.declared.matrix.TheConstants.{LIMIT};
-ghost use Rattle.model_core.specs.State.{IsOrder, parent_of};
+ghost use Rattle.integers.specs.Counting.{IsOrder};
+ghost use Rattle.model_core.specs.State.{parent_of};
 ghost use Rattle.model_core.specs.Finding.{find_option, find_criterion, find_group, criterion_at};
 ghost use Rattle.model_core.specs.Edits.{with_option, without_option, with_criterion, without_criterion, with_change, with_performance, with_order, with_weighting, with_group, without_group, order_without, new_criterion};
 

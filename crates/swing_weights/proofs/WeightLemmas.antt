@@ -14,10 +14,10 @@ use Rattle.integers.proofs.Laws.{lin}
 use Rattle.integers.proofs.Order.{mul_pos, mul_nonneg, le_of_lt, le_antisymm, lt_cases, pos_of_mul, nonneg_of_mul, cancel_le, cancel_eq}
 use Rattle.integers.proofs.Ring.{neg, ◌⊕◌, ◌⊗◌, ◌≗◌, ◌✶◌, ◌⇐◌, ring3, combine11}
 use Rattle.integers.proofs.Writings.{IsWriting-length}
-use Rattle.frac128.specs.Checked.{◌>>=◌, checked_sum, checked_quotient}
+use Rattle.frac128.specs.Checked.{◌>>=◌, Gives, checked_sum, checked_quotient}
 use Rattle.frac128.proofs.FormulaLemmas.{IfOk-bind, IsValued, checked_sum-value, checked_quotient-value}
-use Rattle.value_scale.specs.Anchor.{fraction_at}
-use Rattle.swing_weights.specs.Weights.{checked_total_from, checked_shares, checked_weights, swings, AreFalling, AreAllZero, AreShares, AreWeights, TotalIsNotZero, Gives, AnswersValues}
+use Rattle.judgement_matrix.specs.Values.{fraction_at}
+use Rattle.swing_weights.specs.Weights.{checked_total_from, checked_shares, checked_weights, swings, AreFalling, AreAllZero, AreShares, AreWeights, TotalIsNotZero, FaultSays, AnswersValues}
 use Rattle.swing_weights.specs.declared.weighing.WeightFault.{WeightFault}
 use Rattle.swing_weights.specs.declared.weighing.WeightFault.TheVariants as fault
 use Rattle.value_scale.proofs.BasicLemmas.{IsWriting-take}
@@ -208,10 +208,14 @@ IsTotal values total = (w : List ℤ) (n : ℤ) → IsWriting values w n → IsF
 
 total_is : (values : List Fraction) → AreFractions values → IfOk (checked_total_from (fraction_of (pos 0)) (swings values)) (IsTotal values)
 total_is values pf =
-    each_ok (checked_total_from (fraction_of (pos 0)) (swings values)) (IsWriting values) (λ w n total. IsFraction total × SameFraction (record { num = int_sum (swings w); den = n }) total) (λ w n h.
-    IfOk-weaker (checked_total_from (fraction_of (pos 0)) (swings values)) (IsValued (fraction_sum (fraction_of (pos 0)) (record { num = int_sum (swings w); den = n }))) (λ total. IsFraction total × SameFraction (record { num = int_sum (swings w); den = n }) total)
-    (λ total v. (v.0, SameFraction-sym total (record { num = int_sum (swings w); den = n }) (from_zero total (record { num = int_sum (swings w); den = n }) v.1)))
-    (total_value (fraction_of (pos 0)) (swings values) (swings w) n (IsFraction-whole (pos 0)) (All-take IsFraction (length values - 1) values pf) (swings_written values w n h)))
+    let zero : Fraction = fraction_of (pos 0) in
+    let fits = All-take IsFraction (length values - 1) values pf in
+    let sum : List ℤ → ℤ → Fraction = λ w n. record { num = int_sum (swings w); den = n } in
+    let total = checked_total_from zero (swings values) in
+    each_ok total (IsWriting values) (λ w n total. IsFraction total × SameFraction (sum w n) total) (λ w n h.
+    IfOk-weaker total (IsValued (fraction_sum zero (sum w n))) (λ total. IsFraction total × SameFraction (sum w n) total)
+    (λ total v. (v.0, SameFraction-sym total (sum w n) (from_zero total (sum w n) v.1)))
+    (total_value zero (swings values) (swings w) n (IsFraction-whole (pos 0)) fits (swings_written values w n h)))
 
 -- weights of the values
 pub weights_are : (values : List Fraction) (d : Fraction) → AreFractions values → AreFalling values → (get_or values 0 d).num ≢ pos 0 → IfOk (checked_weights values) (AreWeights values)
@@ -234,7 +238,7 @@ not_all_zero values d h other all = other (all 0 d (omega (arith, h.some)))
 
 -- what is answered for the values, from what the formula gives
 pub answered : {V : Type 0} → (items : V → List Fraction) (values : List Fraction) (d : Fraction) (answer : Result V WeightFault) → AreFractions values → AreFalling values → (get_or values 0 d).num ≢ pos 0
-    → Gives items (checked_weights values) answer → AnswersValues items values answer
+    → Gives FaultSays items (checked_weights values) answer → AnswersValues items values answer
 answered items values d (Ok given) pf h other gives =
     (not_all_zero values d h other, gives, subst (λ r. IfOk r (AreWeights values)) gives (weights_are values d pf h other))
 answered items values d (Err fault.TooWide) pf h other gives = (not_all_zero values d h other, gives)

@@ -5,7 +5,8 @@ use Rattle.integers.specs.Fraction.{Fraction, IsWriting, fraction_of}
 use Rattle.integers.specs.Vector.{scale, int_sum}
 use Rattle.frac128.specs.Checked.{◌>>=◌, checked_sum, checked_quotient}
 use Rattle.frac128.specs.declared.number.TooWide.{TooWide}
-use Rattle.value_scale.specs.Anchor.{NeverRise, fraction_at}
+use Rattle.judgement_matrix.specs.Values.{fraction_at}
+use Rattle.value_scale.specs.Anchor.{NeverRise}
 use Rattle.value_scale.specs.declared.basic.Basic.{Basic}
 use Rattle.value_scale.specs.declared.basic.Basic.TheVariants.{Scale, Inconsistent}
 use Rattle.swing_weights.specs.declared.weighing.WeightFault.{WeightFault}
@@ -57,13 +58,12 @@ checked_weights values = do
   total ← checked_total_from (fraction_of (pos 0)) (swings values)
   checked_shares total (swings values)
 
--- what a formula gives is answered, or that it is too wide; or memory is wanted
-abbrev pub Gives : {V : Type 0} → (V → List Fraction) → Result (List Fraction) TooWide → Result V WeightFault → Type 0
-Gives items worked (Ok given) = worked ≡ Ok (items given)
-Gives items worked (Err fault.TooWide) = IsTrue (is_err worked)
-Gives items worked (Err fault.NoMemory) = Unit {0}
-Gives items worked (Err fault.Inconsistent) = ⊥
-Gives items worked (Err fault.Flat) = ⊥
+-- of a formula a fault says that it is too wide, or nothing as memory is wanted; no formula is inconsistent or flat
+abbrev pub FaultSays : WeightFault → Type 0 → Type 0
+FaultSays fault.TooWide wide = wide
+FaultSays fault.NoMemory wide = Unit {0}
+FaultSays fault.Inconsistent wide = ⊥
+FaultSays fault.Flat wide = ⊥
 
 -- what is answered for the values of a scale: that they are flat exactly where every one is 0, and else what the formula gives
 abbrev pub AnswersValues : {V : Type 0} → (V → List Fraction) → List Fraction → Result V WeightFault → Type 0

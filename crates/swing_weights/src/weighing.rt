@@ -1,8 +1,9 @@
 //! Weights from the scale of a weighting matrix.
 
 ghost use Rattle.std.specs.Prelude.{◌≡◌, ◌≢◌, ◌↔◌, IsTrue, ◌≤◌, length, pos};
+ghost use Rattle.frac128.specs.Checked.{Gives};
 ghost use Rattle.integers.specs.Fraction.{fraction_of};
-ghost use Rattle.swing_weights.specs.Weights.{checked_total_from, checked_shares, checked_weights, Gives, AreFalling, AreSwingValues, AnswersValues, AnswersBasic, TotalIsNotZero};
+ghost use Rattle.swing_weights.specs.Weights.{checked_total_from, checked_shares, checked_weights, FaultSays, AreFalling, AreSwingValues, AnswersValues, AnswersBasic, TotalIsNotZero};
 
 use frac128::laws::are_fractions;
 use frac128::{Frac, NoMemory, TooWide};
@@ -68,7 +69,7 @@ fn total(fractions: &[Frac]) -> Result<Frac, TooWide>
 #[tactic(auto, unfolding(crate::specs::Weights::checked_shares))]
 fn shares(alloc: Global, fractions: &[Frac], total: &Frac) -> Result<Vec<Frac>, WeightFault>
     requires { total.now.num ≢ pos 0 }
-    ensures { Gives (λ shares. shares.items) (checked_shares total.now fractions.now) result }
+    ensures { Gives FaultSays (λ v. v.items) (checked_shares total.now fractions.now) result }
 {
     let mut shares = Vec::new(alloc);
     for fraction in fractions {
@@ -83,7 +84,7 @@ fn shares(alloc: Global, fractions: &[Frac], total: &Frac) -> Result<Vec<Frac>, 
 fn worked(alloc: Global, values: &[Frac]) -> Result<Vec<Frac>, WeightFault>
     requires some { 2 ≤ length values.now }
     requires above { TotalIsNotZero values.now }
-    ensures { Gives (λ weights. weights.items) (checked_weights values.now) result }
+    ensures { Gives FaultSays (λ v. v.items) (checked_weights values.now) result }
 {
     let swings = &values[..values.len() - 1];
     let sum = total(swings)?;

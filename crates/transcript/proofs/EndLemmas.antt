@@ -29,10 +29,6 @@ put_none a b c text p q = subst (Put a c) (append-nil text) (Put-append a b c te
 at_the_end : (q : Progress) (b : Option (List ℕ)) (bytes : List ℕ) → EndsRightly q b → q.ended ≡ true → q.taken ≡ length bytes → IsAtTheEnd bytes b
 at_the_end q b bytes ends seen counted = let h = ends seen in (omega (arith, h.1, counted), h.0)
 
-not_ended_before : (before after : Bool) → (before ≡ true → after ≡ true) → after ≡ false → before ≡ false
-not_ended_before true after stays unseen = absurd (true≢false (sym (stays refl) ∙ unseen))
-not_ended_before false after stays unseen = refl
-
 module _ {S : Type 0} (rules : Rules S) (first : S) where
   -- entries without a `quit`, all of them answered
   all_replies : (entries : List Entry) (text : List ℕ) (state : S) → list_any rules.quits entries ≡ false → Answers rules first entries text state

@@ -13,13 +13,14 @@ use Rattle.integers.proofs.Order.{mul_pos, cancel_eq, cancel_lt, zero_of_mul, le
 use Rattle.integers.proofs.Ring.{con, neg, ◌⊕◌, ◌⊖◌, ◌⊗◌, ◌≗◌, ◌≺◌, ◌✶◌, ◌⇐◌, ring2, combine2, combine4, combine6, combine7, combine9}
 use Rattle.integers.proofs.FractionSums.{IsFraction-whole}
 use Rattle.integers.proofs.Writings.{IsWriting-at, IsWriting-cross, IsWriting-length}
-use Rattle.frac128.specs.Checked.{◌>>=◌, checked_difference, checked_product, checked_quotient}
+use Rattle.frac128.specs.Checked.{◌>>=◌, Gives, checked_difference, checked_product, checked_quotient}
 use Rattle.frac128.specs.declared.number.TooWide.{TooWide}
 use Rattle.frac128.proofs.FormulaLemmas.{IfOk-bind, IsValued, checked_difference-value, checked_product-value, checked_quotient-value}
 use Rattle.value_scale.proofs.EachLemmas.{each_length}
 use Rattle.judgement_matrix.specs.Scale.{value_at}
+use Rattle.judgement_matrix.specs.Values.{fraction_at}
 use Rattle.value_scale.specs.declared.anchored_scale.AnchorFault.{AnchorFault}
-use Rattle.value_scale.specs.Anchor.{IsAnchoredScale, AreAnchored, fraction_at, NeverRise, AreReferences, IsFlat, checked_factor, checked_point, checked_line, checked_anchor, Gives}
+use Rattle.value_scale.specs.Anchor.{IsAnchoredScale, AreAnchored, NeverRise, AreReferences, IsFlat, checked_factor, checked_point, checked_line, checked_anchor, FaultSays}
 
 -- ---- one step each, over one denominator n
 
@@ -208,6 +209,6 @@ anchored_length fs good neutral = with_factor (checked_factor (fraction_at fs go
 
 -- what holds of what a formula gives holds of the answer
 pub answered : {V : Type 0} (items : V → List Fraction) (worked : Result (List Fraction) TooWide) (result : Result V AnchorFault) (P : List Fraction → Type 0)
-    → IfOk worked P → Gives items worked result → IfOk result (λ v. P (items v))
+    → IfOk worked P → Gives FaultSays items worked result → IfOk result (λ v. P (items v))
 answered items worked (Ok v) P h g = subst (λ r. IfOk r P) g h
 answered items worked (Err fault) P h g = tt

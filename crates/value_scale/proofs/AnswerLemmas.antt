@@ -20,9 +20,8 @@ use Rattle.judgement_matrix.specs.Least.{IsSmaller, IsLeastScale}
 use Rattle.lp_macbeth.specs.Gaps.{scale_of}
 use Rattle.lp_macbeth.specs.Rows.{problem_of}
 use Rattle.lp_macbeth.specs.Threshold.{threshold_problem_of}
-use Rattle.lp_macbeth.specs.Passing.{own_numbers}
 use Rattle.lp_macbeth.specs.Translated.{IsCarried}
-use Rattle.lp_macbeth.proofs.CarryLemmas.{carried}
+use Rattle.lp_macbeth.proofs.CarryLemmas.{own_numbers, carried}
 use Rattle.lp_macbeth.proofs.ThresholdProblemLemmas.{IsProblem-threshold_problem_of}
 use Rattle.lex_simplex.specs.Answer.{IsOutcome, IsLeastAnswer, end_of}
 use Rattle.lex_simplex.specs.Count.{capped_sum}

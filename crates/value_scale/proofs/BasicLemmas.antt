@@ -117,7 +117,8 @@ gaps_are_there m point value s h =
     omega (arith, long, length-over h.is.x h.is.n, h.is.least.feasible.one_each)
 
 -- a span certificate of the cost is one of the span
-certifies_span : (m : Judgements) (on : Cert) (value : Fraction) (values : List Fraction) → IsFraction value → IsFraction (span values) → SameFraction value (span values) → IsSpanCertificate (problem_of m) on value → IsSpanCertificate (problem_of m) on (span values)
+certifies_span : (m : Judgements) (on : Cert) (value : Fraction) (values : List Fraction) → IsFraction value → IsFraction (span values)
+    → SameFraction value (span values) → IsSpanCertificate (problem_of m) on value → IsSpanCertificate (problem_of m) on (span values)
 certifies_span m on value values pv ps same h = record {
   den_pos = h.den_pos;
   value_den_pos = ps;

@@ -10,7 +10,8 @@ use Rattle.integers.proofs.Writings.{IsWriting-length, IsWriting-at, common_writ
 use Rattle.judgement_matrix.specs.Matrix.{Judgements}
 use Rattle.judgement_matrix.specs.Scale.{value_at}
 use Rattle.judgement_matrix.proofs.ScaleLemmas.{values_fall}
-use Rattle.value_scale.specs.Anchor.{fraction_at, NeverRise}
+use Rattle.judgement_matrix.specs.Values.{fraction_at}
+use Rattle.value_scale.specs.Anchor.{NeverRise}
 use Rattle.value_scale.specs.Basic.{AreLeastValues}
 use Rattle.value_scale.specs.Slack.{MeetValues}
 

@@ -1,13 +1,13 @@
 -- Anchored scales: 100 at the element good and 0 at the element neutral, the two references of the method
 -- (Bana e Costa, De Corte and Vansnick 2005).
-use Rattle.std.specs.Prelude.{◌≡◌, ◌-◌, ℕ, ℤ, pos, ◌+ℤ◌, ◌*ℤ◌, ◌<ℤ◌, List, [], ◌∷◌, map, length, get_or, Result, Ok, Err, IsTrue}
-use Rattle.std.specs.Result.{is_err}
+use Rattle.std.specs.Prelude.{◌≡◌, ℕ, ℤ, pos, ◌+ℤ◌, ◌*ℤ◌, ◌<ℤ◌, List, [], ◌∷◌, map, length, Result, Ok}
 use Rattle.integers.specs.Fraction.{Fraction, FractionAtMost, SameFraction, IsWriting, fraction_of}
 use Rattle.integers.specs.Vector.{scale}
 use Rattle.frac128.specs.Checked.{◌>>=◌, checked_difference, checked_product, checked_quotient}
 use Rattle.frac128.specs.declared.number.TooWide.{TooWide}
 use Rattle.judgement_matrix.specs.Matrix.{IsPair}
 use Rattle.judgement_matrix.specs.Scale.{value_at}
+use Rattle.judgement_matrix.specs.Values.{fraction_at}
 use Rattle.value_scale.specs.declared.anchored_scale.AnchorFault.{AnchorFault}
 use Rattle.value_scale.specs.declared.anchored_scale.AnchorFault.TheVariants as fault
 
@@ -35,10 +35,6 @@ pub record IsAnchoredScale (w : List ℤ) (n : ℤ) (good neutral : ℕ) (v : Li
 abbrev pub AreAnchored : List Fraction → ℕ → ℕ → List Fraction → Type 0
 AreAnchored values good neutral anchored = (w : List ℤ) (n : ℤ) (v : List ℤ) (k : ℤ)
     → IsWriting values w n → IsWriting anchored v k → IsAnchoredScale w n good neutral v k
-
--- the value of element p, counted from 1
-abbrev pub fraction_at : List Fraction → ℕ → Fraction
-fraction_at values p = get_or values (p - 1) (fraction_of (pos 0))
 
 -- no element has a greater value than one listed above it
 abbrev pub NeverRise : List Fraction → Type 0
@@ -84,9 +80,8 @@ checked_anchor values good neutral = do
   factor ← checked_factor (fraction_at values good) (fraction_at values neutral)
   checked_line (fraction_at values neutral) factor values
 
--- what a formula gives is answered, or that it is too wide; or memory is wanted
-abbrev pub Gives : {V : Type 0} → (V → List Fraction) → Result (List Fraction) TooWide → Result V AnchorFault → Type 0
-Gives items worked (Ok given) = worked ≡ Ok (items given)
-Gives items worked (Err fault.Flat) = ⊥
-Gives items worked (Err fault.TooWide) = IsTrue (is_err worked)
-Gives items worked (Err fault.NoMemory) = Unit {0}
+-- of a formula a fault says that it is too wide, or nothing as memory is wanted; no formula is flat
+abbrev pub FaultSays : AnchorFault → Type 0 → Type 0
+FaultSays fault.TooWide wide = wide
+FaultSays fault.NoMemory wide = Unit {0}
+FaultSays fault.Flat wide = ⊥

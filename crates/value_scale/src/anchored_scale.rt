@@ -1,8 +1,9 @@
 //! Scales whose values are 100 at one reference element and 0 at the other.
 
 ghost use Rattle.std.specs.Prelude.{◌≡◌, ◌↔◌, length, Err, IfOk};
+ghost use Rattle.frac128.specs.Checked.{Gives};
 ghost use Rattle.integers.specs.Fraction.{SameFraction};
-ghost use Rattle.value_scale.specs.Anchor.{AreReferences, NeverRise, IsFlat, fraction_at, checked_factor, checked_point, checked_line, checked_anchor, Gives, AreAnchored};
+ghost use Rattle.value_scale.specs.Anchor.{AreReferences, NeverRise, IsFlat, checked_factor, checked_point, checked_line, checked_anchor, FaultSays, AreAnchored};
 
 use frac128::laws::are_fractions;
 use frac128::{Frac, NoMemory, TooWide};
@@ -64,7 +65,7 @@ pub fn anchor(
     requires falling { NeverRise values.now }
     ensures flat { (result ≡ Err AnchorFault.Flat) ↔ IsFlat values.now good neutral }
     ensures worked { ¬ IsFlat values.now good neutral
-        → Gives (λ v. v.items) (checked_anchor values.now good neutral) result }
+        → Gives FaultSays (λ v. v.items) (checked_anchor values.now good neutral) result }
     ensures each { IfOk result (λ v. length v.items ≡ length values.now) }
     ensures anchored { IfOk result (λ v. AreAnchored values.now good neutral v.items) }
 {
@@ -84,7 +85,8 @@ fn stretched(
     requires references { AreReferences (length values.now) good neutral }
     requires falling { NeverRise values.now }
     requires apart { ¬ IsFlat values.now good neutral }
-    ensures worked { Gives (λ v. v.items) (checked_anchor values.now good neutral) result }
+    ensures worked { Gives FaultSays (λ v. v.items)
+        (checked_anchor values.now good neutral) result }
     ensures each { IfOk result (λ v. length v.items ≡ length values.now) }
     ensures anchored { IfOk result (λ v. AreAnchored values.now good neutral v.items) }
 {
@@ -102,7 +104,7 @@ fn worked(
 ) -> Result<Vec<Frac>, AnchorFault>
     requires references { AreReferences (length values.now) good neutral }
     requires apart { ¬ IsFlat values.now good neutral }
-    ensures { Gives (λ v. v.items) (checked_anchor values.now good neutral) result }
+    ensures { Gives FaultSays (λ v. v.items) (checked_anchor values.now good neutral) result }
 {
     let zero = &values[neutral - 1];
     let factor = factor(&values[good - 1], zero)?;
@@ -125,7 +127,7 @@ fn on_line(
     zero: &Frac,
     factor: &Frac,
 ) -> Result<Vec<Frac>, AnchorFault>
-    ensures { Gives (λ v. v.items) (checked_line zero.now factor.now values.now) result }
+    ensures { Gives FaultSays (λ v. v.items) (checked_line zero.now factor.now values.now) result }
 {
     let mut anchored = Vec::new(alloc);
     for value in values {

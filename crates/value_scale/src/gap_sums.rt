@@ -1,9 +1,10 @@
 //! The values of a scale from its gaps.
 
 ghost use Rattle.std.specs.Prelude.{◌≡◌, ◌∷◌, [], ◌++◌, pos};
+ghost use Rattle.frac128.specs.Checked.{Gives};
 ghost use Rattle.integers.specs.Fraction.{fraction_of};
 ghost use Rattle.value_scale.specs.GapSums.{checked_column, checked_values};
-ghost use Rattle.value_scale.specs.Fault.{Gives};
+ghost use Rattle.value_scale.specs.Fault.{FaultSays};
 
 use crate::fault::ScaleFault;
 use frac128::Frac;
@@ -12,7 +13,7 @@ use std::alloc::Global;
 // The bottom element's 0 and the heights of those above it, from the bottom upwards.
 #[tactic(auto, unfolding(crate::specs::GapSums::checked_heights, crate::specs::GapSums::checked_column))]
 fn heights(alloc: Global, gaps: &[Frac]) -> Result<Vec<Frac>, ScaleFault>
-    ensures { Gives (λ heights. heights.items) (checked_column gaps.now) result }
+    ensures { Gives FaultSays (λ v. v.items) (checked_column gaps.now) result }
 {
     let mut height = Frac::whole(0);
     let mut heights = Vec::new(alloc);
@@ -27,7 +28,7 @@ fn heights(alloc: Global, gaps: &[Frac]) -> Result<Vec<Frac>, ScaleFault>
 /// The values of the scale that these gaps make, the bottom gap first, and the first element's value first.
 #[tactic(auto, unfolding(crate::specs::GapSums::checked_values))]
 pub(crate) fn values_of(alloc: Global, gaps: &[Frac]) -> Result<Vec<Frac>, ScaleFault>
-    ensures { Gives (λ values. values.items) (checked_values gaps.now) result }
+    ensures { Gives FaultSays (λ v. v.items) (checked_values gaps.now) result }
 {
     let mut values = heights(alloc, gaps)?;
     values.reverse();

@@ -2,8 +2,8 @@ use Rattle.std.proofs.Common.{◌≡◌, ◌∙◌, ap, ap₂, sym, subst₂, le
 use Rattle.frac128.specs.Entries.{entries_from}
 use Rattle.frac128.specs.Problem.{AreRowMultipliers}
 use Rattle.lp_macbeth.specs.Threshold.{threshold_rows}
-use Rattle.lp_macbeth.specs.Passing.{own_weights, own_numbers, with_entries, ranges, threshold_weights}
-use Rattle.lp_macbeth.proofs.CarryLemmas.{carried, proves_entries}
+use Rattle.lp_macbeth.specs.Passing.{own_weights, with_entries, ranges}
+use Rattle.lp_macbeth.proofs.CarryLemmas.{threshold_weights, own_numbers, carried, proves_entries}
 use Rattle.lp_macbeth.proofs.translation.translate.Goals as goal
 
 pub weights-requires : goal.weights-requires
