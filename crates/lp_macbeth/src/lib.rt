@@ -19,6 +19,7 @@ mod weighting;
 pub use closed::closed_problem;
 pub use frac128::NoMemory;
 pub use gap_rows::{problem, rows};
+pub use pairs::element_pairs;
 pub use tags::judged_tags;
 pub use threshold::threshold_problem;
 pub use threshold_tags::ThresholdTag;

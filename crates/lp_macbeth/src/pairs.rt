@@ -12,7 +12,7 @@ use judgement_matrix::{Matrix, Range};
 use std::alloc::Global;
 
 /// The pairs of `n` elements in pair order.
-pub(crate) fn pairs(alloc: Global, n: u8) -> Result<Vec<(u8, u8)>, NoMemory>
+pub fn element_pairs(alloc: Global, n: u8) -> Result<Vec<(u8, u8)>, NoMemory>
     requires { n ≤ 24 }
     ensures { IfOk result (λ pairs. pairs.items ≡ all_pairs n) }
 {

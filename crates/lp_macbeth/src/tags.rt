@@ -8,7 +8,7 @@ ghost use Rattle.lp_macbeth.specs.Closed.{closed_tags as tags_of};
 ghost use Rattle.lp_macbeth.specs.Pairs.{ArePairs};
 ghost use Rattle.lp_macbeth.specs.Rows.{judged_rows};
 
-use crate::pairs::{pairs, range, under_each};
+use crate::pairs::{element_pairs, range, under_each};
 use frac128::NoMemory;
 use judgement_matrix::{Matrix, Tag};
 use std::alloc::Global;
@@ -28,7 +28,7 @@ pub fn judged_tags(alloc: Global, matrix: &Matrix) -> Result<Vec<Tag>, NoMemory>
     ensures tags { IfOk result (λ tags. tags.items ≡ judged_rows matrix.now) }
     ensures among { IfOk result (λ tags. All (IsTagAmong matrix.now.size) tags.items) }
 {
-    let pairs = pairs(alloc, matrix.size() as u8)?;
+    let pairs = element_pairs(alloc, matrix.size() as u8)?;
     let mut tags = Vec::new(alloc);
     push_lower(&mut tags, matrix, pairs.as_slice())?;
     push_zero(&mut tags, matrix, pairs.as_slice())?;
@@ -41,7 +41,7 @@ pub(crate) fn closed_tags(alloc: Global, matrix: &Matrix) -> Result<Vec<Tag>, No
     ensures tags { IfOk result (λ tags. tags.items ≡ tags_of matrix.now) }
     ensures among { IfOk result (λ tags. All (IsTagAmong matrix.now.size) tags.items) }
 {
-    let pairs = pairs(alloc, matrix.size() as u8)?;
+    let pairs = element_pairs(alloc, matrix.size() as u8)?;
     let mut tags = Vec::new(alloc);
     push_zero(&mut tags, matrix, pairs.as_slice())?;
     push_cross(alloc, &mut tags, matrix, pairs.as_slice())?;

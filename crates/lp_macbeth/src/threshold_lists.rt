@@ -5,7 +5,7 @@ ghost use Rattle.judgement_matrix.specs.Matrix.{IsPair};
 ghost use Rattle.lp_macbeth.specs.Pairs.{ArePairs};
 ghost use Rattle.lp_macbeth.specs.Threshold.{at_rows_of, equal_rows_of, below_rows_of, step_rows, threshold_rows, IsThresholdTagOf};
 
-use crate::pairs::{pairs, range};
+use crate::pairs::{element_pairs, range};
 use crate::threshold_tags::ThresholdTag;
 use frac128::NoMemory;
 use judgement_matrix::Matrix;
@@ -16,7 +16,7 @@ pub(crate) fn threshold_tags(alloc: Global, matrix: &Matrix) -> Result<Vec<Thres
     ensures tags { IfOk result (λ tags. tags.items ≡ threshold_rows matrix.now) }
     ensures among { IfOk result (λ tags. All (IsThresholdTagOf matrix.now) tags.items) }
 {
-    let pairs = pairs(alloc, matrix.size() as u8)?;
+    let pairs = element_pairs(alloc, matrix.size() as u8)?;
     let mut tags = Vec::new(alloc);
     push_at(&mut tags, matrix, pairs.as_slice())?;
     push_equal(&mut tags, matrix, pairs.as_slice())?;

@@ -9,7 +9,7 @@ ghost use Rattle.lp_macbeth.specs.Passing.{with_entries, spread as spread_over, 
 ghost use Rattle.lp_macbeth.specs.Translated.{IsCarried, ProvesThreshold};
 
 use crate::kinds::Kind;
-use crate::pairs::{pairs, range};
+use crate::pairs::{element_pairs, range};
 use crate::passing::pass_all;
 use crate::threshold_lists::threshold_tags;
 use crate::weight::{Supply, Weight};
@@ -41,7 +41,7 @@ pub fn translate(alloc: Global, matrix: &Matrix, cert: &Cert) -> Result<Cert, No
 fn ranges(alloc: Global, matrix: &Matrix) -> Result<Vec<Range>, NoMemory>
     ensures { IfOk result (λ ranges. ranges.items ≡ ranges_of matrix.now) }
 {
-    let pairs = pairs(alloc, matrix.size() as u8)?;
+    let pairs = element_pairs(alloc, matrix.size() as u8)?;
     ranges_of_pairs(alloc, matrix, pairs.as_slice())
 }
 

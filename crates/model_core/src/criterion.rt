@@ -3,7 +3,7 @@ ghost use Rattle.std.specs.Prelude.{◌≡◌, ◌+◌, ◌-◌, ◌<◌, ◌≤
 ghost use Rattle.word_table.specs.Words.{AreApart, are_apart};
 ghost use Rattle.judgement_matrix.specs.Matrix.{IsPair, judged, cleared};
 ghost use Rattle.judgement_matrix.specs.declared.matrix.TheConstants.{LIMIT};
-ghost use Rattle.model_core.specs.State.{is_reserved};
+ghost use Rattle.model_core.specs.State.{IsCriterion, is_reserved};
 ghost use Rattle.model_core.specs.declared.limits.TheConstants.{LEAST_REACH, MOST_REACH};
 ghost use Rattle.model_core.specs.Finding.{find_element};
 ghost use Rattle.model_core.specs.Edits.{new_criterion, moved, regrouped};
@@ -71,6 +71,7 @@ impl Criterion {
         ensures each { result ≡ length self.now.elements }
         ensures few { (2 ≤ result) × (result ≤ LIMIT) }
         ensures apart { AreApart self.now.elements }
+        ensures keeps { IsCriterion self.now }
     {
         self.elements.len()
     }

@@ -2,11 +2,13 @@
 ghost use Rattle.std.specs.Prelude.{◌≡◌, ◌≢◌, ◌↔◌, ℕ, List, Some, Result};
 ghost use Rattle.judgement_matrix.specs.Range.{Bounds};
 ghost use Rattle.model_core.specs.Categories.{range_of, WritesRange};
-ghost use Rattle.model_core.specs.State.{ModelState};
+ghost use Rattle.model_core.specs.State.{ModelState, IsModel, IsCriterion};
 ghost use Rattle.model_core.specs.Edits.{Edit, Edits};
 ghost use Rattle.model_core.specs.declared.edit.EditFault.{EditFault as Fault};
 
+use crate::criterion::Criterion;
 use crate::edit::EditFault;
+use crate::model::Model;
 
 /// States that an edit of a model has an outcome, and only one but for want of memory. It does nothing.
 pub fn one_outcome()
@@ -22,3 +24,17 @@ pub fn one_outcome()
 pub fn ranges_as_written()
     ensures { (bytes : List ℕ) (range : Bounds) → (range_of bytes ≡ Some range) ↔ WritesRange bytes range }
 {}
+
+/// States what the type of a model keeps. It only reads it.
+pub fn what_a_model_keeps(model: &Model)
+    ensures { IsModel model.now }
+{
+    let _ = model.rows.len();
+}
+
+/// States what the type of a criterion keeps. It only reads it.
+pub fn what_a_criterion_keeps(criterion: &Criterion)
+    ensures { IsCriterion criterion.now }
+{
+    let _ = criterion.elements();
+}

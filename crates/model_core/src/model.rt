@@ -229,8 +229,8 @@ impl Model {
         false
     }
 
-    // The place of a criterion in the weighting, from 1.
-    pub(crate) fn place_of(&self, criterion: usize) -> usize
+    /// The place of a criterion in the weighting, from 1.
+    pub fn place_of(&self, criterion: usize) -> usize
         requires { criterion < length self.now.criteria }
         ensures place { result ≡ place_in self.now.order criterion }
         ensures within { (1 ≤ result) × (result ≤ length self.now.criteria) }

@@ -4,7 +4,7 @@ use Rattle.integers.proofs.Loops.{join_next}
 use Rattle.judgement_matrix.specs.Matrix.{pairs}
 use Rattle.lp_macbeth.specs.Pairs.{row}
 use Rattle.lp_macbeth.proofs.PairLemmas.{range_with_len-next}
-use Rattle.lp_macbeth.proofs.pairs.pairs.Goals as goal
+use Rattle.lp_macbeth.proofs.pairs.element_pairs.Goals as goal
 
 pub loop-p-preserved : goal.loop-p-preserved
 loop-p-preserved c =
