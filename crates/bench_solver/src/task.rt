@@ -1,25 +1,42 @@
 //! What a line asks for.
 
+ghost use Rattle.std.specs.Prelude.{◌≤◌};
+
 use frac128::List;
 use frac128::problem::{Problem, Row};
 use judgement_matrix::{LIMIT, Matrix, Range};
 use lex_simplex::{Count, Outcome, SolveFault, solve};
+use lp_macbeth::{NoMemory, problem, threshold_problem};
 use std::alloc::{AllocError, Global};
 use value_scale::{Basic, ScaleFault, basic_scale};
 
-/// A linear problem, or a matrix with so many judged pairs.
+/// A linear problem, or a matrix with so many judged pairs and what is asked of it.
 #[derive(Drop)]
 pub(crate) enum Task {
     Solve(Problem),
-    Scale(Matrix, usize),
+    Ask(Aim, Matrix, usize),
+}
+
+/// What is asked of a matrix.
+#[derive(Clone, Copy)]
+pub(crate) enum Aim {
+    /// Its basic scale.
+    Scale,
+    /// Its problem, made and not solved.
+    Problem,
+    /// Its threshold problem, made and not solved.
+    Threshold,
 }
 
 impl Task {
     /// The task of a line, if it is one.
     pub(crate) fn read(alloc: Global, line: &str) -> Result<Option<Task>, AllocError> {
-        let is_matrix = line.split_whitespace().nth(1) == Some("matrix");
+        let aim = aim_of(line.split_whitespace().nth(1));
         let mut numbers = Vec::new(alloc);
-        for word in line.split_whitespace().skip(if is_matrix { 2 } else { 1 }) {
+        for word in line
+            .split_whitespace()
+            .skip(if aim.is_some() { 2 } else { 1 })
+        {
             let Ok(number) = word.parse::<i128>() else {
                 return Ok(None);
             };
@@ -31,29 +48,42 @@ impl Task {
         let Ok(size) = usize::try_from(*first) else {
             return Ok(None);
         };
-        if is_matrix {
-            return matrix_of(alloc, size, rest);
+        match aim {
+            Some(aim) => matrix_of(alloc, aim, size, rest),
+            None => problem_of(alloc, size, rest),
         }
-        problem_of(alloc, size, rest)
     }
 
-    /// The name of the answer, and the pivots.
+    /// The name of the answer, and the pivots, or the numbers of a problem that was made.
     pub(crate) fn run(&self, alloc: Global) -> (&'static str, u64) {
-        let mut pivots = Count::new();
-        let end = match self {
-            Task::Solve(problem) => end_of(&solve(alloc, problem, &mut pivots)),
-            Task::Scale(matrix, _) => scaled(alloc, matrix, &mut pivots),
-        };
-        (end, pivots.made())
+        match self {
+            Task::Solve(problem) => solved(alloc, problem),
+            Task::Ask(aim, matrix, _) => asked(alloc, *aim, matrix),
+        }
     }
 
     /// How many variables and rows, or elements and judged pairs.
     pub(crate) fn sizes(&self) -> (usize, usize) {
         match self {
             Task::Solve(problem) => (problem.vars(), problem.rows().len()),
-            Task::Scale(matrix, judged) => (matrix.size(), *judged),
+            Task::Ask(_, matrix, judged) => (matrix.size(), *judged),
         }
     }
+}
+
+/// What the word asks of a matrix.
+fn aim_of(word: Option<&str>) -> Option<Aim> {
+    let word = word?;
+    if word == "matrix" {
+        return Some(Aim::Scale);
+    }
+    if word == "problem" {
+        return Some(Aim::Problem);
+    }
+    if word == "threshold" {
+        return Some(Aim::Threshold);
+    }
+    None
 }
 
 /// The problem with so many variables: first the costs, then each row, its bound last.
@@ -76,7 +106,12 @@ fn problem_of(alloc: Global, vars: usize, numbers: &[i128]) -> Result<Option<Tas
 }
 
 /// The matrix of so many elements: for each judged pair its elements and its lowest and highest category.
-fn matrix_of(alloc: Global, size: usize, numbers: &[i128]) -> Result<Option<Task>, AllocError> {
+fn matrix_of(
+    alloc: Global,
+    aim: Aim,
+    size: usize,
+    numbers: &[i128],
+) -> Result<Option<Task>, AllocError> {
     if size < 2 || size > LIMIT {
         return Ok(None);
     }
@@ -95,7 +130,7 @@ fn matrix_of(alloc: Global, size: usize, numbers: &[i128]) -> Result<Option<Task
         matrix.set(p, q, range);
         judged = judged.saturating_add(1);
     }
-    Ok(Some(Task::Scale(matrix, judged)))
+    Ok(Some(Task::Ask(aim, matrix, judged)))
 }
 
 /// The categories from the lowest to the highest.
@@ -104,6 +139,25 @@ fn range_of(low: i128, high: i128) -> Option<Range> {
         return None;
     };
     Range::make(lo, hi)
+}
+
+/// The name of the answer for a problem, and the pivots.
+fn solved(alloc: Global, problem: &Problem) -> (&'static str, u64) {
+    let mut pivots = Count::new();
+    let end = end_of(&solve(alloc, problem, &mut pivots));
+    (end, pivots.made())
+}
+
+/// The name of the answer for a matrix, and the pivots, or the numbers of the problem that was made.
+fn asked(alloc: Global, aim: Aim, matrix: &Matrix) -> (&'static str, u64) {
+    if matrix.size() < 2 {
+        return ("small", 0);
+    }
+    match aim {
+        Aim::Scale => scaled(alloc, matrix),
+        Aim::Problem => made(&problem(alloc, matrix)),
+        Aim::Threshold => made(&threshold_problem(alloc, matrix)),
+    }
 }
 
 /// The name of an answer.
@@ -116,15 +170,26 @@ fn end_of(answer: &Result<Outcome, SolveFault>) -> &'static str {
     }
 }
 
-/// The name of the answer for a matrix.
-fn scaled(alloc: Global, matrix: &Matrix, pivots: &mut Count) -> &'static str {
-    if matrix.size() < 2 {
-        return "small";
-    }
-    match basic_scale(alloc, matrix, pivots) {
+/// The name of the answer for a matrix's scale, and the pivots.
+fn scaled(alloc: Global, matrix: &Matrix) -> (&'static str, u64)
+    requires { 2 ≤ matrix.now.size }
+{
+    let mut pivots = Count::new();
+    let end = match basic_scale(alloc, matrix, &mut pivots) {
         Ok(Basic::Scale { .. }) => "least",
         Ok(Basic::Inconsistent { .. }) => "nothing",
         Err(ScaleFault::TooWide) => "wide",
         Err(ScaleFault::NoMemory) => "memory",
-    }
+    };
+    (end, pivots.made())
+}
+
+/// Whether the problem was made, and how many numbers it has: costs, coefficients and bounds.
+fn made(answer: &Result<Problem, NoMemory>) -> (&'static str, u64) {
+    let Ok(problem) = answer else {
+        return ("memory", 0);
+    };
+    let width = problem.vars().saturating_add(1);
+    let rows = problem.rows().len().saturating_mul(width);
+    ("made", rows.saturating_add(problem.vars()) as u64)
 }
