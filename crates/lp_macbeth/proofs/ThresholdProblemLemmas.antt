@@ -1,5 +1,5 @@
 -- The threshold problem of a matrix is a linear problem: its numbers are as many as they should be, and in range.
-use Rattle.std.proofs.Common.{ℕ, ◌+◌, ◌-◌, ◌≤◌, ℤ, pos, ◌≤ℤ◌, length, replicate, map, All, ◌∙◌, arith}
+use Rattle.std.proofs.Common.{◌+◌, ◌-◌, ◌≤◌, pos, ◌≤ℤ◌, replicate, ◌∙◌, arith}
 use Rattle.std.specs.Int.Signed.{le_z_yes}
 use Rattle.std.proofs.lemmas.List.{length-append, length-replicate}
 use Rattle.std.proofs.lemmas.List.Elements.{All-append, All-replicate, All-map, All-weaker}
