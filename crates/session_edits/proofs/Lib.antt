@@ -1,5 +1,12 @@
 pub mod AnswerLemmas
-pub mod BothTests
-pub mod NameLemmas
-pub mod NumberLemmas
-pub mod WordLemmas
+pub mod EveryAnswer
+pub mod FirstLemmas
+pub mod NamedLemmas
+pub mod OtherLemmas
+pub mod PieceLemmas
+pub mod RefusalLemmas
+pub mod ReplyLemmas
+pub mod ScoreLemmas
+pub mod TakeLemmas
+pub mod UnderLemmas
+pub mod WorthLemmas

@@ -1,81 +1,77 @@
--- How an entry of the input is answered: a relation of a state, the entry, the reply and the next state.
-use Rattle.std.specs.Prelude.{◌≡◌, ℕ, ◌+◌, Bool, ◌&&◌, List, length, Option, Some, None, Result, Ok, Err, nat_lt, ◌==◌, MatchBool, MatchOption}
-use Rattle.std.specs.List.{position}
-use Rattle.std.specs.Str.{bytes_eq}
-use Rattle.integers.specs.Fraction.{Fraction}
-use Rattle.frac128.specs.declared.number.TooWide.{TooWide}
-use Rattle.judgement_matrix.specs.Range.{Bounds}
-use Rattle.judgement_matrix.specs.Matrix.{judged}
-use Rattle.judgement_matrix.specs.Values.{IsAnswer}
-use Rattle.judgement_matrix.specs.declared.tag.Fit.{Fit}
-use Rattle.judgement_matrix.specs.declared.tag.Fit.TheVariants as fit
-use Rattle.session_edits.specs.Reading.{command_of}
-use Rattle.session_edits.specs.Reply.{refused}
-use Rattle.session_edits.specs.State.{CriterionState, State, new_criterion}
-use Rattle.session_edits.specs.declared.command.Command.{Command}
-use Rattle.session_edits.specs.declared.command.Command.TheVariants as command
-use Rattle.session_edits.specs.declared.command.Parsed.{Parsed}
-use Rattle.session_edits.specs.declared.command.Parsed.TheVariants as parsed
-use Rattle.session_edits.specs.declared.reply.Reply.{Reply}
-use Rattle.session_edits.specs.declared.reply.Reply.TheVariants as reply
+-- How a command is answered: a relation of a state, the command, the reply and the next state.
+use Rattle.std.specs.Prelude.{◌≡◌, ℕ, List, Option, Some, None, Result, Ok, Err, MatchBool}
+use Rattle.model_core.specs.Edits.{Edit}
+use Rattle.model_core.specs.Finding.{find_option, find_element, criterion_at}
+use Rattle.command_read.specs.declared.command.Command.{Command}
+use Rattle.command_read.specs.declared.command.Command.TheVariants as command
+use Rattle.command_read.specs.Later.{is_done_later}
+use Rattle.report_text.specs.declared.reply.Reply.{Reply}
+use Rattle.report_text.specs.declared.reply.Reply.TheVariants as reply
+use Rattle.session_state.specs.State.{SessionState, kept_count}
+use Rattle.session_state.specs.declared.subject.Subject.{Subject}
+use Rattle.session_state.specs.declared.subject.Subject.TheVariants.{Criterion, Weighting}
+use Rattle.session_edits.specs.Subjects.{criterion_named, weighting_of, matrix_named}
+use Rattle.session_edits.specs.Edits.{edit_of, Shows, Refuses, AnswersEdit, AnswersUndo}
+use Rattle.session_edits.specs.Matrices.{matrix_reply, rows_reply, Fits, Verifies}
+use Rattle.session_edits.specs.Scales.{Asks}
+use Rattle.session_edits.specs.Scores.{TellsScores, TellsSubtotals}
+use Rattle.session_edits.specs.Groups.{groups_reply}
+use Rattle.session_edits.specs.declared.question.Question.TheVariants as question
+use Rattle.session_edits.specs.declared.refusal.TheConstants.{UNKNOWN_COMMAND, UNKNOWN_CRITERION, UNKNOWN_ELEMENT}
 
--- the reply is this refusal, and nothing changes
-abbrev pub Refuses : {S : Type 0} → ℕ → S → Reply → S → Type 0
-Refuses number state r next = (r ≡ refused number) × (next ≡ state)
+-- a query about a matrix, where there is that matrix
+abbrev pub Of : SessionState → Option Subject → (Subject → Reply → SessionState → Type 0) → Reply → SessionState → Type 0
+Of s None Query r next = Refuses s UNKNOWN_CRITERION r next
+Of s (Some subject) Query r next = Query subject r next
 
--- the reply is `ok`, and this is the next state
-abbrev pub Accepts : {S : Type 0} → S → Reply → S → Type 0
-Accepts after r next = (r ≡ reply.Ok) × (next ≡ after)
+-- a query about an element of a criterion, where there is that element
+abbrev pub OfElement : SessionState → Option ℕ → (ℕ → Reply → SessionState → Type 0) → Reply → SessionState → Type 0
+OfElement s None Query r next = Refuses s UNKNOWN_ELEMENT r next
+OfElement s (Some element) Query r next = Query element r next
 
--- where a criterion lists an element, from 0
-abbrev pub element_place : CriterionState → List ℕ → Option ℕ
-element_place c element = position (bytes_eq element) c.elements
+-- where an element of the subject stands
+abbrev pub element_named : SessionState → Subject → List ℕ → Option ℕ
+element_named s (Criterion c) name = find_element (criterion_at s.model c) name
+element_named s Weighting name = None
 
--- the pair is judged where both elements are known and the first is listed above the second
-abbrev pub Judges : CriterionState → List ℕ → List ℕ → Bounds → Reply → CriterionState → Type 0
-Judges c x y range r next =
-    MatchOption (element_place c x) (Refuses 3 c r next) (λ p.
-    MatchOption (element_place c y) (Refuses 3 c r next) (λ q.
-    MatchBool (nat_lt p q) (Accepts (record c { matrix = judged c.matrix (p + 1) (q + 1) range }) r next) (Refuses 13 c r next)))
+abbrev pub AsksSlack : SessionState → List ℕ → Subject → Reply → SessionState → Type 0
+AsksSlack s name subject r next =
+    OfElement s (element_named s subject name) (λ element. Asks s (question.Slack element) subject) r next
 
--- as many values as elements
-abbrev pub has_each : CriterionState → List Fraction → Bool
-has_each c values = length values == c.matrix.size
+-- what a command that is no edit asks for
+abbrev pub Tells : SessionState → Command → Reply → SessionState → Type 0
+Tells s command.Undo r next = AnswersUndo s r next
+Tells s (command.Matrix name) r next = Of s (matrix_named s.model name) (λ subject. Shows s (matrix_reply s.model subject)) r next
+Tells s (command.Rows name) r next = Of s (matrix_named s.model name) (λ subject. Shows s (rows_reply s.model subject)) r next
+Tells s (command.Fits name values) r next = Of s (matrix_named s.model name) (Fits s values) r next
+Tells s (command.Verify name block) r next = Of s (matrix_named s.model name) (Verifies s block) r next
+Tells s (command.Scale name) r next = Of s (criterion_named s.model name) (Asks s question.Scale) r next
+Tells s (command.Cert name) r next = Of s (criterion_named s.model name) (Asks s question.Cert) r next
+Tells s (command.Anchored name) r next = Of s (criterion_named s.model name) (Asks s question.Worth) r next
+Tells s (command.Slack name element) r next = Of s (criterion_named s.model name) (AsksSlack s element) r next
+Tells s command.Weights r next = Of s (weighting_of s.model) (Asks s question.Worth) r next
+Tells s command.Wcert r next = Of s (weighting_of s.model) (Asks s question.Cert) r next
+Tells s command.Scores r next = TellsScores s r next
+Tells s (command.Subtotals name) r next = TellsSubtotals s (find_option s.model name) r next
+Tells s command.Groups r next = Shows s (groups_reply s.model) r next
+Tells s command.Stats r next = Shows s (reply.Stats s.results.pivots (kept_count s.results)) r next
+Tells s command.Quit r next = Shows s reply.Ok r next
+-- no other command comes here
+Tells s other r next = Refuses s UNKNOWN_COMMAND r next
 
--- the reply for values that meet the judgements, fail this row first, or are too wide
-abbrev pub fit_reply : CriterionState → Result Fit TooWide → Reply
-fit_reply c (Ok fit.Meets) = reply.Meets
-fit_reply c (Ok (fit.Fails tag)) = reply.Fails c.elements tag
-fit_reply c (Err wide) = refused 27
+-- an edit, or what else a command asks for
+abbrev pub AnswersBy : Option Edit → SessionState → Command → Reply → SessionState → Type 0
+AnswersBy (Some edit) s command r next = AnswersEdit s edit r next
+AnswersBy None s command r next = Tells s command r next
 
--- what a command does to a session
-abbrev pub Does : State → Command → Reply → State → Type 0
-Does None (command.Criterion name elements) r next = Accepts (Some (new_criterion name elements)) r next
-Does (Some c) (command.Criterion name elements) r next = Refuses 3 (Some c) r next
-Does None (command.Judge name x y range) r next = Refuses 3 None r next
-Does (Some c) (command.Judge name x y range) r next =
-    MatchBool (bytes_eq name c.name)
-    ((after : CriterionState) × (next ≡ Some after) × Judges c x y range r after)
-    (Refuses 3 (Some c) r next)
-Does None (command.Fits name values) r next = Refuses 3 None r next
-Does (Some c) (command.Fits name values) r next =
-    MatchBool (bytes_eq name c.name && has_each c values)
-    ((next ≡ Some c) × ((f : Result Fit TooWide) × IsAnswer c.matrix values f × (r ≡ fit_reply c f)))
-    (Refuses 3 (Some c) r next)
-Does state command.Quit r next = Accepts state r next
+-- the commands that are done later are refused as unknown
+abbrev pub Answer : SessionState → Command → Reply → SessionState → Type 0
+Answer s command r next =
+    MatchBool (is_done_later command) (Refuses s UNKNOWN_COMMAND r next) (AnswersBy (edit_of command) s command r next)
 
--- an entry of the input: a line without its newline, or one that is too long
-pub data Entry : Type 0 where
-  too_long : Entry
-  line : List ℕ → Entry
+-- ---- calls
 
--- a line as it reads is answered; where it has no words, the reply is empty
-abbrev pub AnswersParsed : State → Parsed → Option Reply → State → Type 0
-AnswersParsed state parsed.Nothing r next = (r ≡ None) × (next ≡ state)
-AnswersParsed state (parsed.Refused number) r next = (r ≡ Some (refused number)) × (next ≡ state)
-AnswersParsed state (parsed.Do command) r next = (done : Reply) × (r ≡ Some done) × Does state command done next
-
--- the answer to an entry: a line that is too long is refused 1
-abbrev pub Answer : State → Entry → Option Reply → State → Type 0
-Answer state too_long r next = (r ≡ Some (refused 1)) × (next ≡ state)
-Answer state (line bytes) r next = AnswersParsed state (command_of bytes) r next
+-- a call that answers so; where there is no memory, the state is as before
+abbrev pub Replies : {E : Type 0} → (Reply → SessionState → Type 0) → SessionState → Result Reply E → SessionState → Type 0
+Replies Query old (Ok r) new = Query r new
+Replies Query old (Err none) new = new ≡ old

@@ -1,5 +1,8 @@
-pub mod Words
-pub mod Reading
-pub mod State
-pub mod Reply
+pub mod Refusals
+pub mod Subjects
+pub mod Edits
+pub mod Matrices
+pub mod Scales
+pub mod Scores
+pub mod Groups
 pub mod Answer

@@ -1,18 +1,24 @@
 //! Laws of answers, as contracts of functions that do nothing.
-ghost use Rattle.std.specs.Prelude.{◌≡◌, ℕ, Option, Some};
-ghost use Rattle.session_edits.specs.Answer.{Answer, Entry};
-ghost use Rattle.session_edits.specs.State.{State};
-ghost use Rattle.session_edits.specs.declared.reply.Detail.{Detail};
-ghost use Rattle.session_edits.specs.declared.reply.Reply.{Reply};
+ghost use Rattle.std.specs.Prelude.{◌≡◌, ℕ, List};
+ghost use Rattle.command_read.specs.Reading.{command_of};
+ghost use Rattle.command_read.specs.declared.block.Held.{Held};
+ghost use Rattle.command_read.specs.declared.command.Command.{Command};
+ghost use Rattle.command_read.specs.declared.command.Parsed.TheVariants as parsed;
+ghost use Rattle.report_text.specs.declared.reply.Detail.{Detail};
+ghost use Rattle.report_text.specs.declared.reply.Reply.{Reply};
+ghost use Rattle.session_state.specs.State.{SessionState};
+ghost use Rattle.session_edits.specs.Answer.{Answer};
 
-/// States that an answer that is a refusal leaves the state as it is. It does nothing.
-pub fn refusals_keep_the_state()
-    ensures { (state next : State) (entry : Entry) (number : ℕ) (detail : Detail)
-        → Answer state entry (Some (Reply.Refused number detail)) next → next ≡ state }
+/// States that an answer that is a refusal keeps the model and the history. It does nothing.
+pub fn refusals_keep_the_model()
+    ensures { (s next : SessionState) (command : Command) (number : ℕ) (detail : Detail)
+        → Answer s command (Reply.Refused number detail) next
+        → (next.model ≡ s.model) × (next.history ≡ s.history) }
 {}
 
-/// States that every entry has an answer in every state. It does nothing.
-pub fn every_entry_has_an_answer()
-    ensures { (state : State) (entry : Entry)
-        → (reply : Option Reply) × ((next : State) × Answer state entry reply next) }
+/// States that each command that a line may give has an answer in every state. It does nothing.
+pub fn every_command_has_an_answer()
+    ensures { (s : SessionState) (line : List ℕ) (held : Held) (command : Command)
+        → command_of line held ≡ parsed.Do command
+        → (r : Reply) × (next : SessionState) × Answer s command r next }
 {}

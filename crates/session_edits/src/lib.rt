@@ -1,24 +1,21 @@
-//! Lines of a session as commands, what a command does, and the texts of the replies.
+//! A session: what it answers to each command.
 #![tactic(auto)]
 
-mod command;
-mod criterion;
+mod ask;
+mod edits;
+mod groups;
 pub mod laws;
-mod name;
-mod number;
-mod print;
-mod read;
-mod reply;
+mod matrices;
+mod names;
+mod question;
+mod refusal;
+mod scales;
+mod scores;
 mod session;
-mod word;
+mod verify;
 
-pub use command::{Command, Parsed};
-pub use name::Name;
-pub use print::text;
-pub use read::read_command;
-pub use reply::{
-    AGAINST_THE_ORDER, BAD_NUMBER, Detail, LINE_TOO_LONG, Reply, TOO_WIDE, UNKNOWN_COMMAND,
-};
+pub use question::{Question, Sum};
+pub use refusal::{LINE_TOO_LONG, refused};
 pub use session::Session;
 
 /// Why a call that takes memory gave none of its other answers.

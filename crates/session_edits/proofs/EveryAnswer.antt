@@ -1,0 +1,282 @@
+-- Every reading of a line has an answer in every state.
+use Rattle.std.proofs.Common.{◌≡◌, ◌⊎◌, inl, inr, ℕ, ◌<◌, ◌≤◌, Bool, true, false, List, [], ◌∷◌, length, Option, Some, None, Result, Ok, Err, MatchBool, refl, arith, subst, pos}
+use Rattle.std.specs.Prelude.{MatchOption, ◌==◌, nat_lt}
+use Rattle.std.proofs.lemmas.Bool.{cases_lt}
+use Rattle.std.proofs.lemmas.Bool.Decides.{Decides-eqb, Decides-int_eq}
+use Rattle.integers.specs.Fraction.{Fraction}
+use Rattle.frac128.specs.declared.number.TooWide.{TooWide}
+use Rattle.judgement_matrix.specs.Matrix.{Judgements, IsMatrix}
+use Rattle.judgement_matrix.specs.Values.{AreValues, fraction_at}
+use Rattle.judgement_matrix.proofs.ValueLemmas.{answer_exists as fit_exists}
+use Rattle.judgement_matrix.proofs.ScaleLemmas.{IsMetBy-same, IsSmaller-same}
+use Rattle.lp_macbeth.proofs.CutLemmas.{least_scale, infeasible_iff}
+use Rattle.value_scale.specs.Basic.{IsFound}
+use Rattle.value_scale.specs.declared.basic.Basic.{Basic}
+use Rattle.value_scale.specs.declared.fault.ScaleFault.TheVariants as fault
+use Rattle.value_scale.proofs.AnswerLemmas.{HasAnswer, ScaleLaws, has_answer}
+use Rattle.value_scale.proofs.DecidedLemmas.{decided_matrix}
+use Rattle.cert_check.specs.Lines.{IsVerdict}
+use Rattle.cert_check.specs.Text.{IsTextOf, IsFirstBad}
+use Rattle.cert_check.specs.declared.text.CertText.{CertText}
+use Rattle.cert_check.specs.declared.text.Claim.{Claim}
+use Rattle.cert_check.specs.declared.text.Claim.TheVariants.{Least, Nothing as NothingClaimed}
+use Rattle.cert_check.specs.declared.verdict.Verdict.{Verdict}
+use Rattle.cert_check.proofs.ExistenceLemmas.{every_text_reads_or_is_bad, every_span_check_has_a_verdict, every_farkas_check_has_a_verdict}
+use Rattle.lp_macbeth.specs.Rows.{problem_of}
+use Rattle.frac128.specs.declared.problem.Cert.{Cert}
+use Rattle.command_read.specs.Later.{is_done_later}
+use Rattle.command_read.specs.Parts.{ends_in_zero}
+use Rattle.command_read.specs.declared.block.Held.{Held}
+use Rattle.command_read.specs.declared.block.Held.TheVariants as held
+use Rattle.command_read.specs.declared.command.Command.{Command}
+use Rattle.command_read.specs.declared.command.Command.TheVariants as command
+use Rattle.model_core.specs.State.{ModelState}
+use Rattle.model_core.specs.Edits.{Edit, edited}
+use Rattle.model_core.specs.Finding.{find_option}
+use Rattle.model_core.specs.declared.edit.EditFault.{EditFault}
+use Rattle.report_text.specs.declared.reply.Detail.{Detail}
+use Rattle.report_text.specs.declared.reply.Detail.TheVariants as detail
+use Rattle.report_text.specs.declared.reply.Reply.{Reply}
+use Rattle.report_text.specs.declared.reply.Reply.TheVariants as reply
+use Rattle.session_state.specs.State.{ResultsState, SessionState, matrix_of, kept_of, changed, undone, with_results, kept_count}
+use Rattle.session_state.specs.Taking.{as_found, after_run, Takes, TakesFrom}
+use Rattle.session_state.specs.declared.subject.Subject.{Subject}
+use Rattle.session_edits.specs.Refusals.{refused, number_of, or_too_wide, or_refused, ◌>>=◌}
+use Rattle.session_edits.specs.Subjects.{names_of, criterion_named, weighting_of, matrix_named, all_subjects}
+use Rattle.session_edits.specs.Edits.{edit_of, Shows, Refuses, AnswersEdited, AnswersUndone}
+use Rattle.session_edits.specs.Matrices.{matrix_reply, rows_reply, fit_reply, TellsFit, Fits, TellsOfText, TellsOfBlock, Verifies, verdict_reply, at_places, check_on}
+use Rattle.session_edits.specs.Scales.{Asks, worth_of, told}
+use Rattle.session_edits.specs.Scores.{with_worth, TakesAll, TakesBehind, AsksAll, WherePerformed, WhereWeighed, TellsSubtotals, missing, option_places, checked_scores, checked_subtotals}
+use Rattle.session_edits.specs.Groups.{groups_reply}
+use Rattle.std.specs.Ordering.{int_eq}
+use Rattle.session_edits.proofs.WorthLemmas.{both}
+use Rattle.command_read.proofs.ReadValues.{AreReadValues, Keeps}
+use Rattle.session_edits.specs.Answer.{Of, OfElement, element_named, AsksSlack, Tells, AnswersBy, Answer}
+use Rattle.session_edits.specs.declared.question.Question.{Question}
+use Rattle.session_edits.specs.declared.question.Question.TheVariants as question
+use Rattle.session_edits.specs.declared.refusal.TheConstants.{UNKNOWN_COMMAND, UNKNOWN_CRITERION, UNKNOWN_OPTION, UNKNOWN_ELEMENT, WRONG_COUNT, NOTHING_TO_UNDO, PERFORMANCE_MISSING, BLOCK_CUT, BLOCK_TOO_LARGE, BAD_CERTIFICATE}
+
+-- ---- what is taken
+
+-- the laws that the answer of a matrix rests on
+scale_laws : (m : Judgements) → IsMatrix m → 2 ≤ m.size → ScaleLaws m
+scale_laws m is two = record {
+  alike = IsMetBy-same m;
+  compare = IsSmaller-same;
+  scales = λ z n h. least_scale m z n is two h;
+  none = (infeasible_iff m is two).0;
+}
+
+-- an answer for a count, where there are such judgements
+abbrev Findable : Judgements → ℕ → Type 0
+Findable m count = (answer : Result Basic TooWide) × (after : ℕ) × (IsMatrix m → 2 ≤ m.size → IsFound m count (as_found answer) after)
+
+findable : (m : Judgements) (count : ℕ) → Findable m count
+findable m count = by_parts (decided_matrix m) (cases_lt 1 m.size)
+  where
+    of_answer : HasAnswer m count → Findable m count
+    of_answer (Ok basic, after, answered, found) = (Ok basic, after, λ is two. found)
+    of_answer (Err fault.TooWide, after, answered, found) = (Err (record {}), after, λ is two. found)
+    of_answer (Err fault.NoMemory, after, answered, found) = absurd answered
+
+    by_parts : IsMatrix m ⊎ ¬ IsMatrix m → (1 < m.size) ⊎ (m.size ≤ 1) → Findable m count
+    by_parts (inl is) (inl two) = of_answer (has_answer m is (scale_laws m is two) two count)
+    by_parts (inr not) size = (Err (record {}), count, λ is two. absurd (not is))
+    by_parts (inl is) (inr small) = (Err (record {}), count, λ is two. absurd (omega arith))
+
+-- a basic scale that is taken
+abbrev Takable : ModelState → Subject → ResultsState → Type 0
+Takable m subject results = (answer : Result Basic TooWide) × (after : ResultsState) × Takes m subject results answer after
+
+takable : (m : ModelState) (subject : Subject) (results : ResultsState) → Takable m subject results
+takable m subject results = by_kept (kept_of results subject)
+  where
+    by_kept : (kept : Option Basic) → (answer : Result Basic TooWide) × (after : ResultsState) × TakesFrom kept (matrix_of m subject) subject results answer after
+    by_kept (Some basic) = (Ok basic, results, (refl, refl))
+    by_kept None =
+        let h = findable (matrix_of m subject) results.pivots in
+        (h.0, after_run subject h.0 h.1 results, record { count = h.1; found = h.2; kept = refl })
+
+abbrev AllTakable : ModelState → List Subject → ResultsState → Type 0
+AllTakable m subjects results =
+    (worths : Result (List (List Fraction)) Reply) × (after : ResultsState) × TakesAll m subjects results worths after
+
+-- behind a worth, where the others can be taken
+behind : (m : ModelState) (subjects : List Subject) → ((results : ResultsState) → AllTakable m subjects results) → (mid : ResultsState)
+    (worth : Result (List Fraction) Reply)
+    → (worths : Result (List (List Fraction)) Reply) × (after : ResultsState) × TakesBehind (TakesAll m subjects) worth mid worths after
+behind m subjects others mid (Err refusal) = (Err refusal, mid, (refl, refl))
+behind m subjects others mid (Ok worth) = let k = others mid in (with_worth (Ok worth) k.0, k.1, (k.0, k.2, refl))
+
+all_takable : (m : ModelState) (subjects : List Subject) (results : ResultsState) → AllTakable m subjects results
+all_takable m [] results = (Ok [], results, (refl, refl))
+all_takable m (subject ∷ subjects) results =
+    let h = takable m subject results in
+    let k = behind m subjects (λ mid. all_takable m subjects mid) h.1 (worth_of m subject h.0) in
+    (k.0, k.1, (h.0, h.1, h.2, k.2))
+
+-- ---- answers
+
+-- a reply and a next state with R
+abbrev Answerable : (Reply → SessionState → Type 0) → Type 0
+Answerable R = (r : Reply) × (next : SessionState) × R r next
+
+shows : (s : SessionState) (r : Reply) → Answerable (Shows s r)
+shows s r = (r, s, (refl, refl))
+
+refuses : (s : SessionState) (number : ℕ) → Answerable (Refuses s number)
+refuses s number = shows s (refused number)
+
+-- by the test of a choice
+by_test : (b : Bool) (P Q : Reply → SessionState → Type 0) → (b ≡ true → Answerable P) → Answerable Q
+    → Answerable (λ r next. MatchBool b (P r next) (Q r next))
+by_test true P Q p q = p refl
+by_test false P Q p q = q
+
+of_subject : (s : SessionState) (found : Option Subject) (Query : Subject → Reply → SessionState → Type 0)
+    → ((subject : Subject) → Answerable (Query subject)) → Answerable (Of s found Query)
+of_subject s None Query answer = refuses s UNKNOWN_CRITERION
+of_subject s (Some subject) Query answer = answer subject
+
+asks : (s : SessionState) (question : Question) (subject : Subject) → Answerable (Asks s question subject)
+asks s question subject =
+    let h = takable s.model subject s.results in (
+      or_refused (or_too_wide h.0 >>= λ basic. Ok (told s.model subject question basic)),
+      with_results s h.1,
+      (h.1, (h.0, h.2, refl), refl),
+    )
+
+asks_slack : (s : SessionState) (name : List ℕ) (subject : Subject) → Answerable (AsksSlack s name subject)
+asks_slack s name subject = by_element (element_named s subject name)
+  where
+    by_element : (found : Option ℕ) → Answerable (OfElement s found (λ element. Asks s (question.Slack element) subject))
+    by_element None = refuses s UNKNOWN_ELEMENT
+    by_element (Some element) = asks s (question.Slack element) subject
+
+asks_all : (s : SessionState) (make : List (List Fraction) → Result Reply Reply) → Answerable (AsksAll s make)
+asks_all s make =
+    let h = all_takable s.model (all_subjects s.model) s.results in
+    (or_refused (h.0 >>= make), with_results s h.1, (h.1, (h.0, h.2, refl), refl))
+
+where_weighed : (s : SessionState) (os : List ℕ) (make : List (List Fraction) → Result Reply Reply) → Answerable (WhereWeighed s os make)
+where_weighed s os make =
+    by_test (nat_lt 0 (length s.model.criteria)) (WherePerformed s os make) (Refuses s UNKNOWN_CRITERION) (λ some. by_missing (missing s.model os))
+    (refuses s UNKNOWN_CRITERION)
+  where
+    by_missing : (first : Option Detail)
+        → Answerable (λ r next. MatchOption first (AsksAll s make r next) (λ detail. Shows s (reply.Refused PERFORMANCE_MISSING detail) r next))
+    by_missing None = asks_all s make
+    by_missing (Some detail) = shows s (reply.Refused PERFORMANCE_MISSING detail)
+
+subtotals : (s : SessionState) (option : Option ℕ) → Answerable (TellsSubtotals s option)
+subtotals s None = refuses s UNKNOWN_OPTION
+subtotals s (Some o) = where_weighed s (o ∷ []) (checked_subtotals s.model o)
+
+edits : (s : SessionState) (after : Result ModelState EditFault) → Answerable (AnswersEdited s after)
+edits s (Ok after) = (reply.Ok, changed s after, (refl, refl))
+edits s (Err fault) = refuses s (number_of fault)
+
+undoes : (s : SessionState) (before : Option SessionState) → Answerable (AnswersUndone s before)
+undoes s None = refuses s NOTHING_TO_UNDO
+undoes s (Some before) = (reply.Ok, before, (refl, refl))
+
+-- ---- `verify`
+
+verdict_of : (m : Judgements) (claim : Claim) (cert : Cert) → (v : Result Verdict TooWide) × IsVerdict (check_on (problem_of m) claim cert) v
+verdict_of m (Least value) cert = every_span_check_has_a_verdict (problem_of m) value cert
+verdict_of m NothingClaimed cert = every_farkas_check_has_a_verdict (problem_of m) cert
+
+of_text : (m : Judgements) (bytes : List ℕ) → (r : Reply) × TellsOfText m bytes r
+of_text m bytes = by_text (every_text_reads_or_is_bad bytes)
+  where
+    by_text : ((cert : CertText) × IsTextOf bytes cert) ⊎ ((k : ℕ) × IsFirstBad bytes k) → (r : Reply) × TellsOfText m bytes r
+    by_text (inl h) =
+        let v = verdict_of m h.0.claim (at_places m h.0) in (verdict_reply v.0, inl (h.0, h.1, (v.0, v.1, refl)))
+    by_text (inr h) = (reply.Refused BAD_CERTIFICATE (detail.Line h.0), inr (h.0, h.1, refl))
+
+of_block : (m : Judgements) (block : Held) → (r : Reply) × TellsOfBlock m block r
+of_block m (held.Whole bytes) = of_text m bytes
+of_block m held.Cut = (refused BLOCK_CUT, refl)
+of_block m held.Large = (refused BLOCK_TOO_LARGE, refl)
+
+verifies : (s : SessionState) (block : Held) (subject : Subject) → Answerable (Verifies s block subject)
+verifies s block subject = let h = of_block (matrix_of s.model subject) block in (h.0, s, (h.1, refl))
+
+-- ---- `fits`
+
+-- values of which there is one for each element are those of a scale
+values_are : (m : Judgements) (vs : List Fraction) → (length vs == m.size) ≡ true → ends_in_zero vs ≡ true → AreValues m vs
+values_are m vs count zero =
+    let some = both (nat_lt 0 (length vs)) (int_eq (fraction_at vs (length vs)).num (pos 0)) zero in
+    let each : length vs ≡ m.size = (Decides-eqb (length vs) m.size).0 count in
+    let last = (Decides-int_eq (fraction_at vs (length vs)).num (pos 0)).0 some.1 in
+    record { each = each; last = subst (λ n. (fraction_at vs n).num ≡ pos 0) each last }
+
+tells_fit : (m : ModelState) (subject : Subject) (vs : List Fraction) → AreReadValues vs
+    → (length vs == (matrix_of m subject).size) ≡ true → (r : Reply) × TellsFit m subject vs r
+tells_fit m subject vs read count =
+    let h = fit_exists (matrix_of m subject) vs read.0 (values_are (matrix_of m subject) vs count read.1) in
+    (fit_reply (names_of m subject) h.0, (h.0, h.1, refl))
+
+fits : (s : SessionState) (vs : List Fraction) → AreReadValues vs → (subject : Subject) → Answerable (Fits s vs subject)
+fits s vs read subject =
+    by_test (length vs == (matrix_of s.model subject).size) _ _
+    (λ count. let h = tells_fit s.model subject vs read count in (h.0, s, (h.1, refl)))
+    (refuses s WRONG_COUNT)
+
+-- ---- commands
+
+tells : (s : SessionState) (c : Command) → Keeps c → Answerable (Tells s c)
+tells s command.Undo keeps = undoes s (undone s)
+tells s (command.Matrix name) keeps = of_subject s (matrix_named s.model name) _ (λ subject. shows s (matrix_reply s.model subject))
+tells s (command.Rows name) keeps = of_subject s (matrix_named s.model name) _ (λ subject. shows s (rows_reply s.model subject))
+tells s (command.Fits name vs) keeps = of_subject s (matrix_named s.model name) _ (fits s vs keeps)
+tells s (command.Verify name block) keeps = of_subject s (matrix_named s.model name) _ (verifies s block)
+tells s (command.Scale name) keeps = of_subject s (criterion_named s.model name) _ (asks s question.Scale)
+tells s (command.Cert name) keeps = of_subject s (criterion_named s.model name) _ (asks s question.Cert)
+tells s (command.Anchored name) keeps = of_subject s (criterion_named s.model name) _ (asks s question.Worth)
+tells s (command.Slack name element) keeps = of_subject s (criterion_named s.model name) _ (asks_slack s element)
+tells s command.Weights keeps = of_subject s (weighting_of s.model) _ (asks s question.Worth)
+tells s command.Wcert keeps = of_subject s (weighting_of s.model) _ (asks s question.Cert)
+tells s command.Scores keeps = where_weighed s (option_places s.model) (checked_scores s.model)
+tells s (command.Subtotals name) keeps = subtotals s (find_option s.model name)
+tells s command.Groups keeps = shows s (groups_reply s.model)
+tells s command.Stats keeps = shows s (reply.Stats s.results.pivots (kept_count s.results))
+tells s command.Quit keeps = shows s reply.Ok
+tells s (command.Load a) keeps = refuses s UNKNOWN_COMMAND
+tells s (command.Option a) keeps = refuses s UNKNOWN_COMMAND
+tells s (command.DropOption a) keeps = refuses s UNKNOWN_COMMAND
+tells s (command.Criterion a b) keeps = refuses s UNKNOWN_COMMAND
+tells s (command.DropCriterion a) keeps = refuses s UNKNOWN_COMMAND
+tells s (command.Refs a b c) keeps = refuses s UNKNOWN_COMMAND
+tells s (command.Judge a b c d) keeps = refuses s UNKNOWN_COMMAND
+tells s (command.Unjudge a b c) keeps = refuses s UNKNOWN_COMMAND
+tells s (command.Perform a b c) keeps = refuses s UNKNOWN_COMMAND
+tells s (command.WeighOrder a) keeps = refuses s UNKNOWN_COMMAND
+tells s (command.Weigh a b c) keeps = refuses s UNKNOWN_COMMAND
+tells s (command.Unweigh a b) keeps = refuses s UNKNOWN_COMMAND
+tells s (command.Reach a b) keeps = refuses s UNKNOWN_COMMAND
+tells s (command.Import a b) keeps = refuses s UNKNOWN_COMMAND
+tells s (command.Repairs a) keeps = refuses s UNKNOWN_COMMAND
+tells s command.Wrepairs keeps = refuses s UNKNOWN_COMMAND
+tells s (command.Dominance a b) keeps = refuses s UNKNOWN_COMMAND
+tells s (command.Dcert a b) keeps = refuses s UNKNOWN_COMMAND
+tells s command.Dominances keeps = refuses s UNKNOWN_COMMAND
+tells s (command.ExportMatrix a) keeps = refuses s UNKNOWN_COMMAND
+tells s (command.ExportAnchored a) keeps = refuses s UNKNOWN_COMMAND
+tells s command.ExportWeights keeps = refuses s UNKNOWN_COMMAND
+tells s command.ExportScores keeps = refuses s UNKNOWN_COMMAND
+tells s command.Dump keeps = refuses s UNKNOWN_COMMAND
+tells s (command.Group a b) keeps = refuses s UNKNOWN_COMMAND
+tells s (command.DropGroup a) keeps = refuses s UNKNOWN_COMMAND
+tells s (command.Place a b) keeps = refuses s UNKNOWN_COMMAND
+tells s (command.Unplace a) keeps = refuses s UNKNOWN_COMMAND
+
+-- a command has an answer in every state
+pub every_command_has_an_answer : (s : SessionState) (c : Command) → Keeps c → Answerable (Answer s c)
+every_command_has_an_answer s c keeps =
+    by_test (is_done_later c) _ _ (λ later. refuses s UNKNOWN_COMMAND) (by_edit (edit_of c))
+  where
+    by_edit : (edit : Option Edit) → Answerable (AnswersBy edit s c)
+    by_edit (Some edit) = edits s (edited s.model edit)
+    by_edit None = tells s c keeps

@@ -1,0 +1,8 @@
+use Rattle.std.proofs.Common.{subst, sym}
+use Rattle.cert_check.specs.Lines.{IsVerdict}
+use Rattle.session_edits.specs.Matrices.{check_on}
+use Rattle.session_edits.proofs.verify.checked.Goals as goal
+
+pub returns-in-Least : goal.returns-in-Least
+returns-in-Least c =
+    subst (λ claim. IsVerdict (check_on c.args.problem.now claim c.args.cert.now) c.check_dual.result) (sym c.in-Least.is) c.check_dual.ensures.verdict

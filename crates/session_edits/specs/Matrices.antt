@@ -1,0 +1,131 @@
+-- What is asked of a matrix alone: its judgements, its rows, whether values meet it, whether a certificate holds of it.
+use Rattle.std.specs.Prelude.{◌≡◌, ◌⊎◌, ℕ, ◌==◌, ℤ, Bool, List, [], ◌∷◌, map, length, Result, Ok, Err, if◌then◌else◌, MatchBool}
+use Rattle.std.specs.List.{flat_map, position_or_len}
+use Rattle.std.specs.Cmp.Lexicographic.{pointwise}
+use Rattle.integers.specs.Fraction.{Fraction}
+use Rattle.frac128.specs.declared.number.TooWide.{TooWide}
+use Rattle.frac128.specs.Problem.{ProblemData}
+use Rattle.frac128.specs.declared.problem.Cert.{Cert}
+use Rattle.frac128.specs.declared.problem.Row.{Row}
+use Rattle.judgement_matrix.specs.Range.{Bounds}
+use Rattle.judgement_matrix.specs.Matrix.{Judgements, pairs, cell_at}
+use Rattle.judgement_matrix.specs.Values.{IsAnswer}
+use Rattle.judgement_matrix.specs.declared.tag.Fit.{Fit}
+use Rattle.judgement_matrix.specs.declared.tag.Fit.TheVariants as fit
+use Rattle.judgement_matrix.specs.declared.tag.Tag.{Tag}
+use Rattle.judgement_matrix.specs.declared.tag.Tag.TheVariants.{Lower, Zero, Cross, Order}
+use Rattle.lp_macbeth.specs.Rows.{judged_rows, problem_of, tagged_rows}
+use Rattle.cert_check.specs.Lines.{Check, IsVerdict, span_check, farkas_check}
+use Rattle.cert_check.specs.Text.{IsTextOf, IsFirstBad}
+use Rattle.cert_check.specs.declared.text.CertText.{CertText}
+use Rattle.cert_check.specs.declared.text.Claim.{Claim}
+use Rattle.cert_check.specs.declared.text.Claim.TheVariants.{Least, Nothing}
+use Rattle.cert_check.specs.declared.verdict.Verdict.{Verdict}
+use Rattle.cert_check.specs.declared.verdict.Verdict.TheVariants.{Holds, Fails}
+use Rattle.command_read.specs.declared.block.Held.{Held}
+use Rattle.command_read.specs.declared.block.Held.TheVariants as held
+use Rattle.model_core.specs.State.{ModelState}
+use Rattle.report_text.specs.declared.reply.Detail.TheVariants as detail
+use Rattle.report_text.specs.declared.reply.Reply.{Reply}
+use Rattle.report_text.specs.declared.reply.Reply.TheVariants as reply
+use Rattle.session_state.specs.State.{SessionState, matrix_of}
+use Rattle.session_state.specs.declared.subject.Subject.{Subject}
+use Rattle.session_edits.specs.Refusals.{refused}
+use Rattle.session_edits.specs.Subjects.{names_of}
+use Rattle.session_edits.specs.Edits.{Refuses}
+use Rattle.session_edits.specs.declared.refusal.TheConstants.{WRONG_COUNT, BLOCK_CUT, BLOCK_TOO_LARGE, BAD_CERTIFICATE, TOO_WIDE}
+
+-- ---- `matrix` and `rows`
+
+-- a pair and its range, where it is judged
+abbrev pub judged_at : Judgements → ℕ × ℕ → List (ℕ × ℕ × Bounds)
+judged_at m pair = if (cell_at m pair.0 pair.1).1 then (pair.0, pair.1, (cell_at m pair.0 pair.1).0) ∷ [] else []
+
+-- the judged pairs in pair order, with their ranges
+abbrev pub judged_pairs : Judgements → List (ℕ × ℕ × Bounds)
+judged_pairs m = flat_map (judged_at m) (pairs m.size)
+
+abbrev pub matrix_reply : ModelState → Subject → Reply
+matrix_reply m subject = reply.Matrix (names_of m subject) (judged_pairs (matrix_of m subject))
+
+-- the tag of a row and its bound
+abbrev pub with_bound : Tag × Row → Tag × ℤ
+with_bound row = (row.0, row.1.bound)
+
+-- each row with its bound, in row order
+abbrev pub row_bounds : Judgements → List (Tag × ℤ)
+row_bounds m = map with_bound (tagged_rows m)
+
+abbrev pub rows_reply : ModelState → Subject → Reply
+rows_reply m subject = reply.Rows (names_of m subject) (row_bounds (matrix_of m subject))
+
+-- ---- `fits`
+
+-- the reply for values that meet the judgements, fail this row first, or are too wide
+abbrev pub fit_reply : List (List ℕ) → Result Fit TooWide → Reply
+fit_reply names (Ok fit.Meets) = reply.Meets
+fit_reply names (Ok (fit.Fails tag)) = reply.Fails names tag
+fit_reply names (Err wide) = refused TOO_WIDE
+
+-- whether the values meet the matrix
+abbrev pub TellsFit : ModelState → Subject → List Fraction → Reply → Type 0
+TellsFit m subject values r =
+    (answer : Result Fit TooWide) × IsAnswer (matrix_of m subject) values answer × (r ≡ fit_reply (names_of m subject) answer)
+
+-- there must be a value for each element
+abbrev pub Fits : SessionState → List Fraction → Subject → Reply → SessionState → Type 0
+Fits s values subject r next =
+    MatchBool (length values == (matrix_of s.model subject).size)
+    (TellsFit s.model subject values r × (next ≡ s)) (Refuses s WRONG_COUNT r next)
+
+-- ---- `verify`
+
+-- the kind of a row and its positions, as numbers
+abbrev pub tag_numbers : Tag → List ℕ
+tag_numbers (Lower p q) = 0 ∷ p ∷ q ∷ []
+tag_numbers (Zero p q) = 1 ∷ p ∷ q ∷ []
+tag_numbers (Cross p q x y) = 2 ∷ p ∷ q ∷ x ∷ y ∷ []
+tag_numbers (Order p) = 3 ∷ p ∷ []
+
+abbrev pub is_same_tag : Tag → Tag → Bool
+is_same_tag a b = pointwise ◌==◌ (tag_numbers a) (tag_numbers b)
+
+-- an entry by the position of its tag among those of rows; a tag that is none of them stands past the last one
+abbrev pub at_place : List Tag → Tag × ℤ → ℕ × ℤ
+at_place tags entry = (position_or_len (is_same_tag entry.0) tags, entry.1)
+
+-- a certificate by the positions of its rows
+abbrev pub at_places : Judgements → CertText → Cert
+at_places m cert = record { den = cert.den; on = map (at_place (judged_rows m)) cert.on }
+
+-- the lines that are checked, by what the certificate claims
+abbrev pub check_on : ProblemData → Claim → Cert → Check
+check_on p (Least value) cert = span_check p value cert
+check_on p Nothing cert = farkas_check p cert
+
+abbrev pub check_of : Judgements → CertText → Check
+check_of m cert = check_on (problem_of m) cert.claim (at_places m cert)
+
+abbrev pub verdict_reply : Result Verdict TooWide → Reply
+verdict_reply (Ok Holds) = reply.Holds
+verdict_reply (Ok (Fails place)) = reply.FailsAt place
+verdict_reply (Err wide) = refused TOO_WIDE
+
+-- the verdict on a certificate
+abbrev pub TellsVerdict : Judgements → CertText → Reply → Type 0
+TellsVerdict m cert r = (verdict : Result Verdict TooWide) × IsVerdict (check_of m cert) verdict × (r ≡ verdict_reply verdict)
+
+-- the bytes are the text of a certificate, or have a first bad line
+abbrev pub TellsOfText : Judgements → List ℕ → Reply → Type 0
+TellsOfText m bytes r =
+    ((cert : CertText) × IsTextOf bytes cert × TellsVerdict m cert r)
+    ⊎ ((line : ℕ) × IsFirstBad bytes line × (r ≡ reply.Refused BAD_CERTIFICATE (detail.Line line)))
+
+-- what is told of a block
+abbrev pub TellsOfBlock : Judgements → Held → Reply → Type 0
+TellsOfBlock m (held.Whole bytes) r = TellsOfText m bytes r
+TellsOfBlock m held.Cut r = r ≡ refused BLOCK_CUT
+TellsOfBlock m held.Large r = r ≡ refused BLOCK_TOO_LARGE
+
+abbrev pub Verifies : SessionState → Held → Subject → Reply → SessionState → Type 0
+Verifies s block subject r next = TellsOfBlock (matrix_of s.model subject) block r × (next ≡ s)
