@@ -1,68 +1,67 @@
 -- The rules of a session: what it answers to an entry, and what ends it.
-use Rattle.std.specs.Prelude.{◌≡◌, ℕ, Bool, true, false, List, [], Option, None, Some}
-use Rattle.session_edits.specs.State.{State}
-use Rattle.session_edits.specs.Reading.{command_of, IsCommand}
-use Rattle.session_edits.specs.Reply.{reply_text, refused, IsPrintable}
-use Rattle.session_edits.specs.Answer.{Answer, Entry as SessionEntry, too_long as session_too_long, line as session_line}
-use Rattle.session_edits.specs.declared.command.Command.{Command}
-use Rattle.session_edits.specs.declared.command.Command.TheVariants.{Quit}
-use Rattle.session_edits.specs.declared.command.Parsed.{Parsed}
-use Rattle.session_edits.specs.declared.command.Parsed.TheVariants.{Nothing, Do, Refused}
-use Rattle.session_edits.specs.declared.reply.Reply.{Reply}
-use Rattle.transcript.specs.Entry.{Entry, too_long, line, with_block}
+use Rattle.std.specs.Prelude.{◌≡◌, ℕ, Bool, true, false, List, []}
+use Rattle.command_read.specs.Reading.{command_of, takes_block}
+use Rattle.command_read.specs.declared.block.Held.{Held}
+use Rattle.command_read.specs.declared.block.Held.TheVariants as held
+use Rattle.command_read.specs.declared.command.Command.{Command}
+use Rattle.command_read.specs.declared.command.Command.TheVariants.{Quit}
+use Rattle.command_read.specs.declared.command.Parsed.{Parsed}
+use Rattle.command_read.specs.declared.command.Parsed.TheVariants.{Nothing, Do, Refused}
+use Rattle.report_text.specs.Refusals.{IsRefusal}
+use Rattle.report_text.specs.Reply.{reply_text}
+use Rattle.report_text.specs.declared.reply.Reply.{Reply}
+use Rattle.session_state.specs.State.{SessionState}
+use Rattle.session_edits.specs.Answer.{Answer}
+use Rattle.session_edits.specs.Refusals.{refused}
+use Rattle.session_edits.specs.declared.refusal.TheConstants.{LINE_TOO_LONG}
+use Rattle.transcript.specs.Entry.{Entry, too_long, line, with_block, Block, whole, cut, large}
 use Rattle.transcript.specs.Rules.{Rules}
 
--- no line of a session takes a block so far
-abbrev pub takes_none : List ℕ → Bool
-takes_none bytes = false
+-- the block behind a line, as a command holds it
+abbrev pub held_block : Block → Held
+held_block (whole bytes) = held.Whole bytes
+held_block cut = held.Cut
+held_block large = held.Large
 
--- an entry as the session looks at it
-abbrev pub session_entry : Entry → SessionEntry
-session_entry too_long = session_too_long
-session_entry (line bytes) = session_line bytes
-session_entry (with_block bytes block) = session_line bytes
-
--- the empty reply has no bytes
-abbrev pub answer_text : Option Reply → List ℕ
-answer_text None = []
-answer_text (Some reply) = reply_text reply
+-- what an entry asks for: a line that is too long is refused
+abbrev pub parsed_entry : Entry → Parsed
+parsed_entry too_long = Refused LINE_TOO_LONG
+parsed_entry (line bytes) = command_of bytes (held.Whole [])
+parsed_entry (with_block bytes block) = command_of bytes (held_block block)
 
 -- the text is that of a reply with R
-abbrev pub WritesReply : (Option Reply → State → Type 0) → List ℕ → State → Type 0
-WritesReply R text next = (reply : Option Reply) × R reply next × (text ≡ answer_text reply)
+abbrev pub WritesReply : (Reply → SessionState → Type 0) → List ℕ → SessionState → Type 0
+WritesReply R text next = (r : Reply) × R r next × (text ≡ reply_text r)
+
+-- what was read is answered: nothing by the empty text, and a refusal by its own
+abbrev pub AnswersParsed : SessionState → Parsed → List ℕ → SessionState → Type 0
+AnswersParsed s Nothing text next = (text ≡ []) × (next ≡ s)
+AnswersParsed s (Refused number) text next = (text ≡ reply_text (refused number)) × (next ≡ s)
+AnswersParsed s (Do command) text next = WritesReply (Answer s command) text next
+
+-- a state, an entry, the text of its answer and the next state
+abbrev pub SessionAnswers : SessionState → Entry → List ℕ → SessionState → Type 0
+SessionAnswers s entry text next = AnswersParsed s (parsed_entry entry) text next
 
 -- whether a command is `quit`, which is always accepted
 abbrev pub ends_session : Command → Bool
 ends_session Quit = true
 ends_session other = false
 
-abbrev pub is_quit_line : Parsed → Bool
-is_quit_line Nothing = false
-is_quit_line (Do command) = ends_session command
-is_quit_line (Refused number) = false
+abbrev pub is_quit : Parsed → Bool
+is_quit Nothing = false
+is_quit (Do command) = ends_session command
+is_quit (Refused number) = false
 
 -- whether an entry is an accepted `quit`
-abbrev pub is_quit : SessionEntry → Bool
-is_quit session_too_long = false
-is_quit (session_line bytes) = is_quit_line (command_of bytes)
-
--- a state, an entry, the text of its answer and the next state
-abbrev pub SessionAnswers : State → Entry → List ℕ → State → Type 0
-SessionAnswers state entry text next = WritesReply (Answer state (session_entry entry)) text next
-
 abbrev pub session_quits : Entry → Bool
-session_quits entry = is_quit (session_entry entry)
+session_quits entry = is_quit (parsed_entry entry)
 
-abbrev pub session_rules : Rules State
-session_rules = record { answers = SessionAnswers; takes_block = takes_none; quits = session_quits }
+abbrev pub session_rules : Rules SessionState
+session_rules = record { answers = SessionAnswers; takes_block = takes_block; quits = session_quits }
 
--- an entry as it reads
-abbrev pub parsed_entry : SessionEntry → Parsed
-parsed_entry session_too_long = Refused 1
-parsed_entry (session_line bytes) = command_of bytes
-
--- what was read has a reply with a text
-abbrev pub CanAnswer : Parsed → Type 0
-CanAnswer Nothing = Unit {0}
-CanAnswer (Do command) = IsCommand command
-CanAnswer (Refused number) = IsPrintable (refused number)
+-- a refusal has words
+abbrev pub HasRefusal : Parsed → Type 0
+HasRefusal Nothing = Unit {0}
+HasRefusal (Do command) = Unit {0}
+HasRefusal (Refused number) = IsRefusal number

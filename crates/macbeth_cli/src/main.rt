@@ -30,4 +30,6 @@ fn run_process(rt: &HostRuntime) -> Status {
 }
 
 #[cfg(test)]
+mod session_tests;
+#[cfg(test)]
 mod tests;

@@ -1,7 +1,8 @@
 //! The top call.
-ghost use Rattle.std.specs.Prelude.{◌≡◌, ◌≢◌, ◌↔◌, [], None};
+ghost use Rattle.std.specs.Prelude.{◌≡◌, ◌≢◌, ◌↔◌, []};
 ghost use Rattle.line_io.specs.Outside.{change_of};
 ghost use Rattle.transcript.specs.Table.{Runs};
+ghost use Rattle.session_state.specs.State.{start_state};
 ghost use Rattle.macbeth_cli.specs.Session.{session_rules};
 
 use crate::session::SessionMode;
@@ -19,7 +20,7 @@ pub fn run<S: Source, K: Sink>(
 ) -> Status
     // By the status a transcript of what was taken was written, as far as its table says.
     ensures session { words.now ≡ []
-        → Runs session_rules None result (change_of S.left S.faults source.old source.new)
+        → Runs session_rules start_state result (change_of S.left S.faults source.old source.new)
         (change_of K.held K.faults sink.old sink.new) }
 
     // Words that aren't known are told, and nothing is taken or written.

@@ -1,13 +1,15 @@
 //! A session as a service.
-ghost use Rattle.std.specs.Prelude.{◌≡◌, false, None, IfOk};
-ghost use Rattle.session_edits.specs.Answer.{AnswersParsed};
-ghost use Rattle.session_edits.specs.Reading.{command_of, IsCommand};
-ghost use Rattle.session_edits.specs.Reply.{IsPrintable, refused};
-ghost use Rattle.session_edits.specs.State.{State};
-ghost use Rattle.macbeth_cli.specs.Session.{session_rules, session_entry, WritesReply, CanAnswer, parsed_entry, is_quit_line, ends_session};
+ghost use Rattle.std.specs.Prelude.{◌≡◌, IfOk, true};
+ghost use Rattle.command_read.specs.Blocks.{held_of};
+ghost use Rattle.command_read.specs.Reading.{command_of};
+ghost use Rattle.session_state.specs.State.{start_state};
+ghost use Rattle.macbeth_cli.specs.Session.{session_rules, parsed_entry, AnswersParsed, is_quit, ends_session, HasRefusal};
 ghost use Rattle.macbeth_cli.specs.SessionLaw.{session_total};
 
-use session_edits::{Command, Detail, LINE_TOO_LONG, Parsed, Reply, Session, read_command, text};
+use command_read::laws::readings;
+use command_read::{Block, Command, Parsed, read_command, takes_block};
+use report_text::text;
+use session_edits::{LINE_TOO_LONG, Session, refused};
 use std::alloc::Global;
 use std::marker::Model;
 use transcript::{Answered, Entry, NoMemory, Service, Shape};
@@ -19,9 +21,9 @@ pub struct SessionMode {
 }
 
 impl Model for SessionMode {
-    ghost use Rattle.session_edits.specs.State.{State};
+    ghost use Rattle.session_state.specs.State.{SessionState};
 
-    ghost Value = { State };
+    ghost Value = { SessionState };
 
     ghost view = { λ m. m.session };
 }
@@ -29,45 +31,57 @@ impl Model for SessionMode {
 impl Service for SessionMode {
     ghost rules = { session_rules };
 
-    ghost first = { None };
+    ghost first = { start_state };
 
     fn start(alloc: Global) -> Result<SessionMode, NoMemory> {
         Ok(SessionMode {
-            session: Session::start(alloc),
+            session: Session::start(alloc)?,
         })
     }
 
-    fn takes_block(_line: &[u8]) -> bool {
-        false
+    fn takes_block(line: &[u8]) -> bool {
+        takes_block(line)
     }
 
     fn answer(&mut self, alloc: Global, entry: &Entry) -> Result<Answered, NoMemory> {
-        let parsed = read_entry(alloc, entry)?;
-        answer_parsed(alloc, &mut self.session, &parsed)
+        answer_entry(alloc, &mut self.session, entry)
     }
 
     ghost total = { session_total };
 }
 
+/// Answers an entry.
+fn answer_entry(alloc: Global, session: &mut Session, entry: &Entry) -> Result<Answered, NoMemory>
+    ensures text { IfOk result (λ answered.
+        AnswersParsed session.old (parsed_entry entry.now) answered.text.items session.new) }
+    ensures ends { IfOk result (λ answered. answered.ends ≡ is_quit (parsed_entry entry.now)) }
+{
+    let parsed = read_entry(alloc, entry)?;
+    answer_parsed(alloc, session, &parsed)
+}
+
 /// What an entry asks for.
 fn read_entry(alloc: Global, entry: &Entry) -> Result<Parsed, NoMemory>
-    ensures parsed { IfOk result (λ parsed. parsed ≡ parsed_entry (session_entry entry.now)) }
-    ensures can { IfOk result CanAnswer }
+    ensures parsed { IfOk result (λ parsed. parsed ≡ parsed_entry entry.now) }
+    ensures number { IfOk result HasRefusal }
 {
     match entry.shape() {
         Shape::TooLong => Ok(Parsed::Refused(LINE_TOO_LONG)),
-        Shape::Line(line) => read_line(alloc, line),
-        Shape::Whole(line, _) => read_line(alloc, line),
-        Shape::Cut(line) => read_line(alloc, line),
-        Shape::Large(line) => read_line(alloc, line),
+        Shape::Line(line) => read_line(alloc, line, Block::Absent),
+        Shape::Whole(line, block) => read_line(alloc, line, Block::Whole(block)),
+        Shape::Cut(line) => read_line(alloc, line, Block::Cut),
+        Shape::Large(line) => read_line(alloc, line, Block::Large),
     }
 }
 
-fn read_line(alloc: Global, line: &[u8]) -> Result<Parsed, NoMemory>
-    ensures parsed { IfOk result (λ parsed. parsed ≡ command_of line.now) }
-    ensures can { IfOk result CanAnswer }
+// What a line with this block asks for.
+fn read_line(alloc: Global, line: &[u8], block: Block<'_>) -> Result<Parsed, NoMemory>
+    ensures parsed { IfOk result (λ parsed. parsed ≡ command_of line.now (held_of block.entry)) }
+    ensures number { IfOk result HasRefusal }
 {
-    read_command(alloc, line)
+    // For the proofs alone: a refusal has a number from 2 to 7.
+    readings();
+    read_command(alloc, line, block)
 }
 
 /// Answers what was read.
@@ -76,26 +90,28 @@ fn answer_parsed(
     session: &mut Session,
     parsed: &Parsed,
 ) -> Result<Answered, NoMemory>
-    requires { CanAnswer parsed.now }
+    requires { HasRefusal parsed.now }
     ensures text { IfOk result (λ answered.
-        WritesReply (AnswersParsed session.old parsed.now) answered.text.items session.new) }
-    ensures ends { IfOk result (λ answered. answered.ends ≡ is_quit_line parsed.now) }
+        AnswersParsed session.old parsed.now answered.text.items session.new) }
+    ensures ends { IfOk result (λ answered. answered.ends ≡ is_quit parsed.now) }
 {
     match parsed {
         Parsed::Nothing => Ok(Answered {
             text: Vec::new(alloc),
             ends: false,
         }),
-        Parsed::Refused(number) => refuse(alloc, *number),
+        Parsed::Refused(number) => Ok(Answered {
+            text: text(alloc, &refused(*number))?.into_bytes(),
+            ends: false,
+        }),
         Parsed::Do(command) => obey(alloc, session, command),
     }
 }
 
 /// Does a command.
 fn obey(alloc: Global, session: &mut Session, command: &Command) -> Result<Answered, NoMemory>
-    requires { IsCommand command.now }
-    ensures text { IfOk result (λ answered. WritesReply
-        (AnswersParsed session.old (Parsed.Do command.now)) answered.text.items session.new) }
+    ensures text { IfOk result (λ answered.
+        AnswersParsed session.old (Parsed.Do command.now) answered.text.items session.new) }
     ensures ends { IfOk result (λ answered. answered.ends ≡ ends_session command.now) }
 {
     let reply = session.apply(command)?;
@@ -103,20 +119,5 @@ fn obey(alloc: Global, session: &mut Session, command: &Command) -> Result<Answe
     Ok(Answered {
         text: text.into_bytes(),
         ends: matches!(command, Command::Quit),
-    })
-}
-
-/// A refusal without a detail.
-fn refuse(alloc: Global, number: u8) -> Result<Answered, NoMemory>
-    requires { IsPrintable (refused number) }
-    ensures text { (state : State) → IfOk result (λ answered.
-        WritesReply (AnswersParsed state (Parsed.Refused number)) answered.text.items state) }
-    ensures ends { IfOk result (λ answered. answered.ends ≡ false) }
-{
-    let detail = Detail::None;
-    let text = text(alloc, &Reply::Refused { number, detail })?;
-    Ok(Answered {
-        text: text.into_bytes(),
-        ends: false,
     })
 }

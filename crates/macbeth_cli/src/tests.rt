@@ -2,110 +2,19 @@ ghost use Rattle.std.specs.Prelude.{None, Option, List, ℕ};
 
 use super::*;
 use line_io::{Failed, MemSink, MemSource, NeverSink, NeverSource, Sink, Source};
-use session_edits::{Command, Name, Parsed, Reply, read_command, text};
 use std::alloc::Global;
 use std::env::{Env, FillError};
 use std::test::Fail;
 
 /// The criterion of the examples, judged, and the replies to that.
-const ABC: &str = "criterion c A B C\njudge c A B 3\njudge c A C 4\njudge c B C 2\n";
+pub(crate) const ABC: &str = "criterion c A B C\njudge c A B 3\njudge c A C 4\njudge c B C 2\n";
 
-const ABC_REPLIES: &str = "ok\nok\nok\nok\n";
+pub(crate) const ABC_REPLIES: &str = "ok\nok\nok\nok\n";
 
 /// More room than any of the sessions needs.
-const ROOM: usize = 1_000;
+pub(crate) const ROOM: usize = 4_000;
 
-/// A session behind the judged criterion: what is read and what is written.
-struct Row {
-    name: &'static str,
-    input: &'static str,
-    output: &'static str,
-}
-
-const ROWS: [Row; 16] = [
-    Row {
-        name: "fits meets",
-        input: "fits c 5 2 0\n",
-        output: "meets\n",
-    },
-    Row {
-        name: "fits fails",
-        input: "fits c 4 2 0\n",
-        output: "fails lower \"A\" \"B\"\n",
-    },
-    Row {
-        name: "against the order",
-        input: "judge c B A 2\nfits c 5 2 0\n",
-        output: "refused 13 against the listed order\nmeets\n",
-    },
-    Row {
-        name: "a pair with itself",
-        input: "judge c B B 2\n",
-        output: "refused 13 against the listed order\n",
-    },
-    Row {
-        name: "a pair that is equal",
-        input: "judge c A B 0\nfits c 3 2 0\nfits c 2 2 0\n",
-        output: "ok\nfails lower \"A\" \"C\"\nfails lower \"A\" \"C\"\n",
-    },
-    Row {
-        name: "a pair judged above another",
-        input: "judge c B C 1\nfits c 4 1 0\nfits c 4 2 0\n",
-        output: "ok\nmeets\nfails lower \"A\" \"B\"\n",
-    },
-    Row {
-        name: "zero, cross and order",
-        input: "judge c A B 1\njudge c A C 0\njudge c B C 0\nfits c 1 0 0\nfits c 1 0 -1\n",
-        output: "ok\nok\nok\nfails zero \"A\" \"C\"\nrefused 6 bad number\n",
-    },
-    Row {
-        name: "a difference that isn't above another",
-        input: "fits c 6 3 0\nfits c 9 2 0\nfits c 9 7 0\n",
-        output: "fails cross \"A\" \"B\" over \"B\" \"C\"\nmeets\nfails lower \"A\" \"B\"\n",
-    },
-    Row {
-        name: "lines without words",
-        input: "\n   \nquit\nfits c 5 2 0\n",
-        output: "ok\n",
-    },
-    Row {
-        name: "the last line has no newline",
-        input: "fits c 5 2 0",
-        output: "meets\n",
-    },
-    Row {
-        name: "carriage returns",
-        input: "fits c 5 2 0\r\nquit\r\n",
-        output: "meets\nok\n",
-    },
-    Row {
-        name: "not one of the forms",
-        input: "criterion d A B\njudge c A Z 2\njudge d A B 2\njudge c A B 7\njudge c A B\nfits c\nquit now\nfit c 5 2 0\n",
-        output: "refused 3 unknown command\nrefused 3 unknown command\nrefused 3 unknown command\nrefused 3 unknown command\nrefused 3 unknown command\nrefused 3 unknown command\nrefused 3 unknown command\nrefused 3 unknown command\n",
-    },
-    Row {
-        name: "fractions",
-        input: "fits c 11/2 2 0\nfits c 9/2 4/2 0/5\nfits c 12345678901 2 0\n",
-        output: "meets\nfails lower \"A\" \"B\"\nmeets\n",
-    },
-    Row {
-        name: "bad numbers before other refusals",
-        input: "fits c 5 x 0\nfits c 5/0 2 0\nfits d 5 2 1\nfits c 1 2\nfits c 5 0\nfits d 5 2 0\nfits c- 5 x\n",
-        output: "refused 6 bad number\nrefused 6 bad number\nrefused 6 bad number\nrefused 6 bad number\nrefused 3 unknown command\nrefused 3 unknown command\nrefused 3 unknown command\n",
-    },
-    Row {
-        name: "wide number",
-        input: "fits c 170141183460469231731687303715884105727 -170141183460469231731687303715884105727 0\nfits c 170141183460469231731687303715884105728 -170141183460469231731687303715884105727 0\n",
-        output: "refused 27 too wide\nrefused 6 bad number\n",
-    },
-    Row {
-        name: "several spaces",
-        input: "  fits   c  5 2 0  \n",
-        output: "meets\n",
-    },
-];
-
-fn bytes_of(alloc: Global, parts: &[&str]) -> Result<Vec<u8>, Fail> {
+pub(crate) fn bytes_of(alloc: Global, parts: &[&str]) -> Result<Vec<u8>, Fail> {
     let mut bytes = Vec::new(alloc);
     for part in parts {
         bytes.extend_from_slice(part.as_bytes())?;
@@ -113,24 +22,13 @@ fn bytes_of(alloc: Global, parts: &[&str]) -> Result<Vec<u8>, Fail> {
     Ok(bytes)
 }
 
-fn run_plainly<S: Source, K: Sink>(alloc: Global, source: &mut S, sink: &mut K) -> Status {
+pub(crate) fn run_plainly<S: Source, K: Sink>(
+    alloc: Global,
+    source: &mut S,
+    sink: &mut K,
+) -> Status {
     let words = Vec::new(alloc);
     run(alloc, &words, source, sink)
-}
-
-#[test]
-fn sessions(rt: HostRuntime) -> Result<(), Fail> {
-    let alloc = rt.alloc();
-    for row in &ROWS {
-        let input = bytes_of(alloc, &[ABC, row.input])?;
-        let output = bytes_of(alloc, &[ABC_REPLIES, row.output])?;
-        let mut source = MemSource::make(input, 7, Vec::new(alloc));
-        let mut sink = MemSink::make(alloc, ROOM, 5, Vec::new(alloc))?;
-        let status = run_plainly(alloc, &mut source, &mut sink);
-        assert_eq!(rt; status, Status::Done, "{}", row.name);
-        assert_eq!(rt; sink.bytes(), output.as_slice(), "{}", row.name);
-    }
-    Ok(())
 }
 
 #[test]
@@ -180,16 +78,6 @@ fn words_that_are_not_known(rt: HostRuntime) -> Result<(), Fail> {
 }
 
 #[test]
-fn an_order_without_judgements(rt: HostRuntime) -> Result<(), Fail> {
-    let alloc = rt.alloc();
-    let mut source = NeverSource::make(bytes_of(alloc, &["criterion c A B C\nfits c 0 1 0\n"])?);
-    let mut sink = NeverSink::make(alloc, ROOM)?;
-    assert_eq!(rt; run_plainly(alloc, &mut source, &mut sink), Status::Done);
-    assert_eq!(rt; sink.bytes(), b"ok\nfails order \"A\"\n".as_slice());
-    Ok(())
-}
-
-#[test]
 fn ends_of_input(rt: HostRuntime) -> Result<(), Fail> {
     let alloc = rt.alloc();
     let mut source = NeverSource::make(Vec::new(alloc));
@@ -203,27 +91,6 @@ fn ends_of_input(rt: HostRuntime) -> Result<(), Fail> {
     let mut sink = NeverSink::make(alloc, ROOM)?;
     assert_eq!(rt; run_plainly(alloc, &mut source, &mut sink), Status::Done);
     assert_eq!(rt; sink.bytes(), b"refused 1 line too long\nok\n".as_slice());
-    Ok(())
-}
-
-#[test]
-fn names(rt: HostRuntime) -> Result<(), Fail> {
-    let name = Name::check(rt.alloc(), b"c1")?.ok_or("a name")?;
-    assert_eq!(rt; name.copy()?.as_str(), "c1");
-    assert!(rt; Name::check(rt.alloc(), b"c-1")?.is_none());
-    Ok(())
-}
-
-#[test]
-fn commands(rt: HostRuntime) -> Result<(), Fail> {
-    let parsed = read_command(rt.alloc(), b"quit")?;
-    assert!(rt; matches!(parsed, Parsed::Do(Command::Quit)));
-    Ok(())
-}
-
-#[test]
-fn texts(rt: HostRuntime) -> Result<(), Fail> {
-    assert_eq!(rt; text(rt.alloc(), &Reply::Meets)?.as_str(), "meets\n");
     Ok(())
 }
 
