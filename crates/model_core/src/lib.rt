@@ -27,6 +27,8 @@ pub use text::{Pointer, Text};
 #[cfg(test)]
 mod edit_tests;
 #[cfg(test)]
+mod limit_tests;
+#[cfg(test)]
 mod script;
 #[cfg(test)]
 mod word_tests;

@@ -20,12 +20,15 @@ pub(crate) fn edit(alloc: Global, model: &mut Model, line: &str) -> Result<(), E
     }
 }
 
-/// Makes an edit that isn't refused.
-pub(crate) fn make_edit(alloc: Global, model: &mut Model, line: &str) -> Result<(), Fail> {
-    match edit(alloc, model, line) {
-        Ok(()) => Ok(()),
-        Err(_) => Err(Fail::from(line)),
+/// The model that these edits make, a line each.
+pub(crate) fn model_of(alloc: Global, edits: &str) -> Result<Model, Fail> {
+    let mut model = Model::empty(alloc)?;
+    for line in edits.lines() {
+        if edit(alloc, &mut model, line).is_err() {
+            return Err(Fail::from(line));
+        }
     }
+    Ok(model)
 }
 
 // What comes and what goes.
@@ -220,14 +223,48 @@ fn show_weighting(text: &mut String, model: &Model) -> Result<(), NoMemory> {
     show_matrix(text, model.weighting())
 }
 
-// The groups, each with the one that it belongs to.
+// The groups, each with the one that it belongs to and the criteria that lie under it.
 fn show_groups(text: &mut String, model: &Model) -> Result<(), NoMemory> {
     text.push_str("\ngroups")?;
     for at in 0..model.groups() {
+        if at > 0 {
+            text.push_str(",")?;
+        }
         let group = model.group(at);
         write!(text, " {}", group.name().as_str())?;
         if let Some(parent) = group.parent() {
             write!(text, " in {}", model.group(parent).name().as_str())?;
+        }
+        show_members(text, model, at)?;
+    }
+    Ok(())
+}
+
+fn show_members(text: &mut String, model: &Model, group: usize) -> Result<(), NoMemory>
+    requires { group < length model.now.groups }
+{
+    let mut word = " over";
+    for criterion in 0..model.criteria() {
+        if model.under(criterion, group) {
+            let name = model.criterion(criterion).name();
+            write!(text, "{word} {}", name.as_str())?;
+            word = "";
+        }
+    }
+    Ok(())
+}
+
+/// Adds the lines of one text that another hasn't, behind `-`, and then those that only the other has, behind `+`.
+pub(crate) fn differences(said: &mut String, old: &str, new: &str) -> Result<(), NoMemory> {
+    add_lines(said, "-", old, new)?;
+    add_lines(said, "+", new, old)
+}
+
+// Adds the lines of a text that the other hasn't.
+fn add_lines(said: &mut String, sign: &str, text: &str, other: &str) -> Result<(), NoMemory> {
+    for line in text.lines() {
+        if !other.lines().any(|kept| kept == line) {
+            write!(said, "{sign} {line}\n")?;
         }
     }
     Ok(())
