@@ -1,3 +1,7 @@
+ghost use Rattle.std.specs.Prelude.{◌≡◌, [], IfOk};
+ghost use Rattle.command_read.specs.Reading.{command_of};
+ghost use Rattle.command_read.specs.declared.block.Held.TheVariants as held;
+
 use crate::{Block, Command, NoMemory, Parsed, read_command, split_word, takes_block};
 use std::alloc::Global;
 use std::test::Fail;
@@ -13,9 +17,16 @@ fn shown(alloc: Global, line: &[u8]) -> Result<String, Fail> {
     Ok(format!(in alloc; "{parsed:?}")?)
 }
 
+/// What a line asks for that takes no block.
+fn read(alloc: Global, line: &[u8]) -> Result<Parsed, NoMemory>
+    ensures { IfOk result (λ parsed. parsed ≡ command_of line.now (held.Whole [])) }
+{
+    read_command(alloc, line, Block::Absent)
+}
+
 /// The number of a line's refusal, 1 where it asks for nothing, and 0 for a command.
 fn number(alloc: Global, line: &[u8]) -> Result<u8, NoMemory> {
-    Ok(match read_command(alloc, line, Block::Absent)? {
+    Ok(match read(alloc, line)? {
         Parsed::Nothing => 1,
         Parsed::Do(_) => 0,
         Parsed::Refused(number) => number,
