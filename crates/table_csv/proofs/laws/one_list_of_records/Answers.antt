@@ -1,0 +1,5 @@
+use Rattle.table_csv.proofs.RecordLemmas.{one_reading}
+use Rattle.table_csv.proofs.laws.one_list_of_records.Goals as goal
+
+pub returns : goal.returns
+returns c = one_reading

@@ -1,0 +1,32 @@
+-- Tables as lines.
+use Rattle.std.specs.Prelude.{◌≡◌, ◌≤◌, ℕ, ◌==◌, Bool, not, List, [], ◌∷◌, ◌++◌, length, map, flat_map}
+use Rattle.std.specs.List.{list_all, AllByRecursion}
+use Rattle.std.specs.Global.{Vec}
+use Rattle.csv.specs.Reading.{strip_bom}
+use Rattle.csv.specs.Writing.{default_writer, row_text}
+use Rattle.table_csv.specs.Table.{AreRecordsOf, field_of}
+
+-- the fields of each row
+abbrev pub rows : List (Vec (List ℕ)) → List (List (List ℕ))
+rows = map (λ row. row.items)
+
+-- no byte is a newline
+abbrev pub is_line : List ℕ → Bool
+is_line bytes = list_all (λ byte. not (byte == 10)) bytes
+
+-- a line with its newline
+abbrev pub ended : List ℕ → List ℕ
+ended line = line ++ 10 ∷ []
+
+-- a line for each row, which with its newline is what csv writes of it by its defaults
+abbrev pub AreLinesOf : List (List (List ℕ)) → List (List ℕ) → Type 0
+AreLinesOf table lines = map ended lines ≡ map (row_text default_writer) table
+
+-- read, the lines have the rows as their records
+abbrev pub ReadAs : List (List (List ℕ)) → List (List ℕ) → Type 0
+ReadAs table lines = AreRecordsOf (flat_map ended lines) table
+
+-- Each row has two fields or more, and the first field of all doesn't begin with the mark that a reader drops.
+pub record IsTable (table : List (List (List ℕ))) : Type 0 where
+  pub each : AllByRecursion (λ row. 2 ≤ length row) table
+  pub plain : strip_bom (field_of table 0 0) ≡ field_of table 0 0

@@ -1,0 +1,29 @@
+//! Laws of tables, as contracts of functions that do nothing.
+ghost use Rattle.std.specs.Prelude.{◌≡◌, ℕ, List, None, length};
+ghost use Rattle.judgement_matrix.specs.Matrix.{Judgements, IsMatrix, IsSize};
+ghost use Rattle.csv.specs.Reading.{strip_bom};
+ghost use Rattle.integers.specs.Fraction.{Fraction};
+ghost use Rattle.table_csv.specs.Table.{AreRecordsOf, fault_of, table_matrix};
+ghost use Rattle.table_csv.specs.Layout.{matrix_table, value_table};
+ghost use Rattle.table_csv.specs.Lines.{IsTable};
+
+/// States that a text has one list of records. It does nothing.
+pub fn one_list_of_records()
+    ensures { (text : List ℕ) (a b : List (List (List ℕ)))
+        → AreRecordsOf text a → AreRecordsOf text b → a ≡ b }
+{}
+
+/// States that the table of a matrix has no fault, and holds the matrix. It does nothing.
+pub fn exported_matrices_import()
+    ensures { (names : List (List ℕ)) (m : Judgements) → IsMatrix m → m.size ≡ length names
+        → (fault_of names (matrix_table names m) ≡ None)
+        × (table_matrix names (matrix_table names m) ≡ m) }
+{}
+
+/// States that the tables of matrices and of values are read back from their lines. It does nothing.
+pub fn tables_are_tables()
+    ensures matrices { (names : List (List ℕ)) (m : Judgements)
+        → IsSize (length names) → IsTable (matrix_table names m) }
+    ensures values { (head : List ℕ) (names : List (List ℕ)) (values : List Fraction)
+        → strip_bom head ≡ head → IsTable (value_table head names values) }
+{}
