@@ -5,3 +5,5 @@ pub mod FaultLemmas
 pub mod CellLemmas
 pub mod LayoutLemmas
 pub mod TableLemmas
+pub mod RecordExistence
+pub mod LineOfRow

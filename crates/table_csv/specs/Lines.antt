@@ -1,5 +1,5 @@
 -- Tables as lines.
-use Rattle.std.specs.Prelude.{◌≡◌, ◌≤◌, ℕ, ◌==◌, Bool, not, List, [], ◌∷◌, ◌++◌, length, map, flat_map}
+use Rattle.std.specs.Prelude.{◌≡◌, ◌≤◌, ℕ, ◌-◌, ◌==◌, Bool, not, List, [], ◌∷◌, ◌++◌, length, map, take, flat_map}
 use Rattle.std.specs.List.{list_all, AllByRecursion}
 use Rattle.std.specs.Global.{Vec}
 use Rattle.csv.specs.Reading.{strip_bom}
@@ -21,6 +21,14 @@ ended line = line ++ 10 ∷ []
 -- a line for each row, which with its newline is what csv writes of it by its defaults
 abbrev pub AreLinesOf : List (List (List ℕ)) → List (List ℕ) → Type 0
 AreLinesOf table lines = map ended lines ≡ map (row_text default_writer) table
+
+-- the line of a row: what csv writes of it by its defaults, without the newline
+abbrev pub line_of : List (List ℕ) → List ℕ
+line_of row = take (length (row_text default_writer row) - 1) (row_text default_writer row)
+
+-- the lines of a table
+abbrev pub lines_of : List (List (List ℕ)) → List (List ℕ)
+lines_of = map line_of
 
 -- read, the lines have the rows as their records
 abbrev pub ReadAs : List (List (List ℕ)) → List (List ℕ) → Type 0

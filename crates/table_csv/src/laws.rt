@@ -5,12 +5,19 @@ ghost use Rattle.csv.specs.Reading.{strip_bom};
 ghost use Rattle.integers.specs.Fraction.{Fraction};
 ghost use Rattle.table_csv.specs.Table.{AreRecordsOf, fault_of, table_matrix};
 ghost use Rattle.table_csv.specs.Layout.{matrix_table, value_table};
-ghost use Rattle.table_csv.specs.Lines.{IsTable};
+ghost use Rattle.table_csv.specs.Lines.{AreLinesOf, lines_of, IsTable};
 
-/// States that a text has one list of records. It does nothing.
+/// States that a text has a list of records, and only one. It does nothing.
 pub fn one_list_of_records()
-    ensures { (text : List ℕ) (a b : List (List (List ℕ)))
+    ensures some { (text : List ℕ) → (records : List (List (List ℕ))) × AreRecordsOf text records }
+    ensures one { (text : List ℕ) (a b : List (List (List ℕ)))
         → AreRecordsOf text a → AreRecordsOf text b → a ≡ b }
+{}
+
+/// States that the lines of a table are a function of it. It does nothing.
+pub fn one_list_of_lines()
+    ensures { (table : List (List (List ℕ))) (lines : List (List ℕ))
+        → AreLinesOf table lines → lines ≡ lines_of table }
 {}
 
 /// States that the table of a matrix has no fault, and holds the matrix. It does nothing.
