@@ -7,3 +7,5 @@ pub mod LayoutLemmas
 pub mod TableLemmas
 pub mod RecordExistence
 pub mod LineOfRow
+pub mod FaultlessLemmas
+pub mod ImportLemmas

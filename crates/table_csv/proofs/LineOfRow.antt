@@ -1,9 +1,9 @@
 -- The lines of a table are those that have its rows' texts with their newlines.
-use Rattle.std.proofs.Common.{◌≡◌, ℕ, ◌-◌, List, [], ◌∷◌, ◌++◌, length, map, take, refl, ap, ap₂, sym, subst, ◌∙◌, arith}
+use Rattle.std.proofs.Common.{◌≡◌, ℕ, ◌-◌, List, [], ◌∷◌, length, map, take, refl, ap, ap₂, sym, subst, ◌∙◌, arith}
 use Rattle.std.proofs.lemmas.List.{length-append}
 use Rattle.std.proofs.Math.Seq.{take-append_seam}
 use Rattle.csv.specs.Writing.{default_writer, row_text}
-use Rattle.table_csv.specs.Lines.{ended, line_of, lines_of, AreLinesOf}
+use Rattle.table_csv.specs.Lines.{ended, lines_of, AreLinesOf}
 
 -- what stands before the newline
 front_of : (line text : List ℕ) → ended line ≡ text → line ≡ take (length text - 1) text

@@ -30,9 +30,13 @@ line_of row = take (length (row_text default_writer row) - 1) (row_text default_
 abbrev pub lines_of : List (List (List ℕ)) → List (List ℕ)
 lines_of = map line_of
 
--- read, the lines have the rows as their records
+-- the lines, each with its newline
+abbrev pub lines_text : List (List ℕ) → List ℕ
+lines_text lines = flat_map ended lines
+
+-- the text of the lines has the rows as its records
 abbrev pub ReadAs : List (List (List ℕ)) → List (List ℕ) → Type 0
-ReadAs table lines = AreRecordsOf (flat_map ended lines) table
+ReadAs table lines = AreRecordsOf (lines_text lines) table
 
 -- Each row has two fields or more, and the first field of all doesn't begin with the mark that a reader drops.
 pub record IsTable (table : List (List (List ℕ))) : Type 0 where

@@ -1,5 +1,5 @@
 -- Tables of judgements: which records are one, the first fault of others, and the matrix that one holds.
-use Rattle.std.specs.Prelude.{◌≡◌, ℕ, ◌+◌, ◌==◌, Bool, false, true, ◌&&◌, ◌||◌, nat_lt, nat_le, List, [], ◌∷◌, length, map, slice_index_or, slice_set, codes, Option, Some, None, is_some, Result, Ok, Err, if◌then◌else◌}
+use Rattle.std.specs.Prelude.{◌≡◌, ℕ, ◌+◌, ◌≤◌, ◌==◌, Bool, false, true, ◌&&◌, ◌||◌, nat_lt, nat_le, List, [], ◌∷◌, length, map, slice_index_or, slice_set, codes, Option, Some, None, is_some, Result, Ok, Err, if◌then◌else◌}
 use Rattle.std.specs.Option.{option_map_or}
 use Rattle.std.specs.Str.{bytes_eq}
 use Rattle.csv.specs.Reading.{AreRecords, default_config, strip_bom}
@@ -59,6 +59,14 @@ fault_of names records = fault_from names 0 records
 -- the field of a row and a column, from 0
 abbrev pub field_of : List (List (List ℕ)) → ℕ → ℕ → List ℕ
 field_of records row column = slice_index_or (slice_index_or records row []) column []
+
+-- the records of a table of these names: as many as names and one more, each with as many fields, and each field may
+-- stand where it does
+pub record IsFaultless (names : List (List ℕ)) (records : List (List (List ℕ))) : Type 0 where
+  pub size : length records ≡ length names + 1
+  pub each : (row : ℕ) → row ≤ length names → length (slice_index_or records row []) ≡ length names + 1
+  pub stand : (row column : ℕ) → row ≤ length names → column ≤ length names
+      → may_stand names row column (field_of records row column) ≡ true
 
 -- the cell that a field writes: its range as judged, or not judged where it writes none
 abbrev pub cell_of : List ℕ → Bounds × Bool

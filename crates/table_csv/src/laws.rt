@@ -1,11 +1,14 @@
 //! Laws of tables, as contracts of functions that do nothing.
-ghost use Rattle.std.specs.Prelude.{◌≡◌, ℕ, List, None, length};
+ghost use Rattle.std.specs.Prelude.{◌≡◌, ◌↔◌, ◌⊎◌, ℕ, List, None, Result, length};
 ghost use Rattle.judgement_matrix.specs.Matrix.{Judgements, IsMatrix, IsSize};
 ghost use Rattle.csv.specs.Reading.{strip_bom};
 ghost use Rattle.integers.specs.Fraction.{Fraction};
-ghost use Rattle.table_csv.specs.Table.{AreRecordsOf, fault_of, table_matrix};
+ghost use Rattle.table_csv.specs.Table.{AreRecordsOf, fault_of, IsFaultless, table_matrix, Imports};
 ghost use Rattle.table_csv.specs.Layout.{matrix_table, value_table};
-ghost use Rattle.table_csv.specs.Lines.{AreLinesOf, lines_of, IsTable};
+ghost use Rattle.table_csv.specs.Lines.{lines_text, lines_of, AreLinesOf, IsTable};
+ghost use Rattle.table_csv.specs.declared.fault.TableFault.{TableFault as Fault};
+
+use crate::fault::TableFault;
 
 /// States that a text has a list of records, and only one. It does nothing.
 pub fn one_list_of_records()
@@ -20,11 +23,25 @@ pub fn one_list_of_lines()
         → AreLinesOf table lines → lines ≡ lines_of table }
 {}
 
+/// States that records have no fault exactly where they are a table of these names. It does nothing.
+pub fn faultless_tables()
+    ensures { (names : List (List ℕ)) (records : List (List (List ℕ)))
+        → (fault_of names records ≡ None) ↔ IsFaultless names records }
+{}
+
 /// States that the table of a matrix has no fault, and holds the matrix. It does nothing.
 pub fn exported_matrices_import()
     ensures { (names : List (List ℕ)) (m : Judgements) → IsMatrix m → m.size ≡ length names
         → (fault_of names (matrix_table names m) ≡ None)
         × (table_matrix names (matrix_table names m) ≡ m) }
+{}
+
+/// States that the lines of a matrix's table import as the matrix, but for want of memory. It does nothing.
+pub fn exported_lines_import()
+    ensures { (names : List (List ℕ)) (m : Judgements) (lines : List (List ℕ))
+        (answer : Result Judgements Fault) → IsMatrix m → m.size ≡ length names
+        → AreLinesOf (matrix_table names m) lines → Imports names (lines_text lines) answer
+        → (answer ≡ Ok m) ⊎ (answer ≡ Err TableFault.NoMemory) }
 {}
 
 /// States that the tables of matrices and of values are read back from their lines. It does nothing.

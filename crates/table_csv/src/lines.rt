@@ -23,11 +23,18 @@ fn record_of(alloc: Global, row: &[Text]) -> Result<ByteRecord, NoMemory>
     Ok(record)
 }
 
-// The text of one record of the default writer.
+// How csv writes by its defaults.
+fn defaults() -> WriterBuilder
+    ensures { result ≡ default_writer }
+{
+    WriterBuilder::new()
+}
+
+// The text of one record.
 fn row_bytes(alloc: Global, row: &ByteRecord) -> Result<Vec<u8>, Error>
     ensures { IfOk result (λ text. text.items ≡ row_text default_writer (fields_of row.now)) }
 {
-    let mut writer = WriterBuilder::new().from_writer(Vec::new(alloc));
+    let mut writer = defaults().from_writer(Vec::new(alloc));
     writer.write_byte_record(row)?;
     match writer.into_inner() {
         Ok(text) => Ok(text),

@@ -1,5 +1,6 @@
-use Rattle.std.proofs.Common.{◌≡◌, ◌-◌, length, take, ◌∙◌, ap, sym, arith}
+use Rattle.std.proofs.Common.{◌≡◌, ◌-◌, true, length, take, ◌∙◌, ap, sym, subst, arith}
 use Rattle.std.proofs.lemmas.Result.{IfOk-weaker}
+use Rattle.model_core.specs.Names.{is_text}
 use Rattle.csv.specs.Writing.{default_writer, row_text}
 use Rattle.table_csv.specs.Lines.{ended}
 use Rattle.table_csv.proofs.TextLemmas.{row_line, row_line-ended, row_is_text}
@@ -11,7 +12,9 @@ text_of-requires c =
     let fields = c.args.row.now in
     let text : c.in-Ok.text.items ≡ row_text default_writer fields = c.in-Ok.ensures ∙ ap (row_text default_writer) c.in_ok-record.ensures.fields in
     let size : c.len.result - 1 ≡ length c.in-Ok.text.items - 1 = omega (arith, c.len.ensures) in
-    rw (c.deref.ensures.value, line_taken fields c.in-Ok.text.items (c.len.result - 1) text size) (row_is_text fields c.in_ok-record.ensures.texts)
+    let taken : take (c.len.result - 1) c.deref.result.now ≡ row_line fields =
+    ap (take (c.len.result - 1)) c.deref.ensures.value ∙ line_taken fields c.in-Ok.text.items (c.len.result - 1) text size in
+    subst (λ bytes. is_text bytes ≡ true) (sym taken) (row_is_text fields c.in_ok-record.ensures.texts)
 
 pub returns : goal.returns
 returns c =
