@@ -10,18 +10,11 @@ pub fn is_done_later(command: &Command) -> bool
     ensures { result ≡ is_done_later command.now }
 {
     match command {
-        Command::Load(_)
-        | Command::Import(..)
-        | Command::Repairs(_)
+        Command::Repairs(_)
         | Command::Wrepairs
         | Command::Dominance(..)
         | Command::Dcert(..)
-        | Command::Dominances
-        | Command::ExportMatrix(_)
-        | Command::ExportAnchored(_)
-        | Command::ExportWeights
-        | Command::ExportScores
-        | Command::Dump => true,
+        | Command::Dominances => true,
         _ => false,
     }
 }

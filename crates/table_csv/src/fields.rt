@@ -15,8 +15,8 @@ pub(crate) fn text_of(alloc: Global, bytes: &[u8]) -> Result<Text, NoMemory>
     Ok(text.unwrap())
 }
 
-/// The text with these characters.
-pub(crate) fn text_from(alloc: Global, line: &str) -> Result<Text, NoMemory>
+/// The text with these characters, among which is no newline.
+pub fn text_from(alloc: Global, line: &str) -> Result<Text, NoMemory>
     requires { IsTrue (is_line line.now) }
     ensures { IfOk result (λ text. text ≡ line.now) }
 {

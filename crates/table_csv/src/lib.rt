@@ -10,6 +10,7 @@ mod reading;
 mod values;
 
 pub use fault::TableFault;
+pub use fields::text_from;
 pub use layout::matrix_table;
 pub use lines::export;
 pub use reading::import_matrix;
