@@ -12,7 +12,7 @@ struct Row {
 }
 
 /// Sessions behind the judged criterion.
-const JUDGED: [Row; 22] = [
+const JUDGED: [Row; 26] = [
     Row {
         name: "fits meets",
         input: "fits c 5 2 0\n",
@@ -117,8 +117,28 @@ const JUDGED: [Row; 22] = [
     },
     Row {
         name: "not done yet",
-        input: "dump\nrepairs c\ndominances\nexport weights\nload\n{\nend\nimport c\n,A\nend\n",
-        output: "refused 3 unknown command\nrefused 3 unknown command\nrefused 3 unknown command\nrefused 3 unknown command\nrefused 3 unknown command\nrefused 3 unknown command\n",
+        input: "repairs c\nwrepairs\ndominances\ndominance a b\ndcert a b\n",
+        output: "refused 3 unknown command\nrefused 3 unknown command\nrefused 3 unknown command\nrefused 3 unknown command\nrefused 3 unknown command\n",
+    },
+    Row {
+        name: "matrix table",
+        input: "export matrix c\nunjudge c A B\nimport c\n,A,B,C\nA,,moderate,strong\nB,,,weak\nC,,,\nend\nfits c 5 2 0\nimport c\n,A,B,C\nA,,moderate,strong\nB,,,feeble\nC,,,\nend\nundo\nmatrix c\n",
+        output: "csv 4\n,A,B,C\nA,,moderate,strong\nB,,,weak\nC,,,\nok\nok\nmeets\nrefused 18 bad model or table: line 3 field 4\nok\nmatrix 3 2\n\"A\"\n\"B\"\n\"C\"\n\"A\" \"C\" strong\n\"B\" \"C\" weak\n",
+    },
+    Row {
+        name: "anchored table",
+        input: "export anchored c\n",
+        output: "csv 4\nelement,value,decimal\nA,100,100.00\nB,40,40.00\nC,0,0.00\n",
+    },
+    Row {
+        name: "exports that are refused",
+        input: "judge c A C 2\nexport anchored c\nexport anchored d\nexport weights\nexport scores\noption a\nexport scores\nexport matrix d\nexport table c\nimport d\nend\nload\n",
+        output: "ok\nrefused 22 inconsistent: \"c\"\nrefused 9 unknown criterion\nrefused 23 flat: weighting\nrefused 22 inconsistent: \"c\"\nok\nrefused 21 performance missing: \"a\" \"c\"\nrefused 9 unknown criterion\nrefused 4 wrong number of words\nrefused 9 unknown criterion\nrefused 15 block cut by the end of input\n",
+    },
+    Row {
+        name: "a result is kept over an import and a load of the same judgements",
+        input: "anchored c\nimport c\n,A,B,C\nA,no,3,4\nB,,no,2\nC,,,no\nend\nstats\nload\n{\"macbeth\":1,\"criteria\":[{\"name\":\"c\",\"elements\":[\"A\",\"B\",\"C\"],\"judgements\":[[2,3,2,2],[1,3,4,4],[1,2,3,3]]}]}\nend\nstats\nimport c\n,A,B,C\nA,,?,4\nB,,,2\nC,,,\nend\nstats\n",
+        output: "anchored 3\n\"A\" 100 100.00\n\"B\" 40 40.00\n\"C\" 0 0.00\nok\nstats pivots 6 kept 1\nok\nstats pivots 6 kept 1\nok\nstats pivots 6 kept 0\n",
     },
     Row {
         name: "unknown names come first",
@@ -128,7 +148,37 @@ const JUDGED: [Row; 22] = [
 ];
 
 /// Sessions from the start.
-const WHOLE: [Row; 7] = [
+const WHOLE: [Row; 13] = [
+    Row {
+        name: "a block that the input ends",
+        input: "load\n{\n",
+        output: "refused 15 block cut by the end of input\n",
+    },
+    Row {
+        name: "empty dump",
+        input: "dump\n",
+        output: "dump 10\n{\n  \"criteria\": [],\n  \"groups\": [],\n  \"macbeth\": 2,\n  \"options\": [],\n  \"weighting\": {\n    \"judgements\": [],\n    \"order\": []\n  }\n}\n",
+    },
+    Row {
+        name: "load",
+        input: "load\n{\"macbeth\":1,\"criteria\":[{\"name\":\"c\",\"elements\":[\"A\",\"B\",\"C\"],\"judgements\":[[1,2,3,3],[1,3,4,4],[2,3,2,2]]}]}\nend\nfits c 5 2 0\nload\n{\"macbeth\":1,\"criteria\":[{\"name\":\"c\",\"elements\":[\"A\"]}]}\nend\nload\n{\nend\nload\n[]\nend\n",
+        output: "ok\nmeets\nrefused 18 bad model or table: /criteria/0/elements\nrefused 17 bad JSON\nrefused 18 bad model or table: \n",
+    },
+    Row {
+        name: "undo a load",
+        input: "load\n{\"macbeth\":1,\"criteria\":[{\"name\":\"c\",\"elements\":[\"A\",\"B\",\"C\"],\"judgements\":[[1,2,3,3],[1,3,4,4],[2,3,2,2]]}]}\nend\nundo\ndump\n",
+        output: "ok\nok\ndump 10\n{\n  \"criteria\": [],\n  \"groups\": [],\n  \"macbeth\": 2,\n  \"options\": [],\n  \"weighting\": {\n    \"judgements\": [],\n    \"order\": []\n  }\n}\n",
+    },
+    Row {
+        name: "tables of a weighting",
+        input: "criterion c A B\ncriterion d A B\nimport weighting\n,c,d,none\nc,,0,\"weak\"\nd,,,\nnone,,,\nend\nweights\nexport weights\nexport matrix weighting\nimport weighting\n,c,d\nend\n",
+        output: "ok\nok\nok\nweights 2\n\"c\" 1/2 0.50\n\"d\" 1/2 0.50\ncsv 3\ncriterion,value,decimal\nc,1/2,0.50\nd,1/2,0.50\ncsv 4\n,c,d,none\nc,,no,weak\nd,,,\nnone,,,\nrefused 18 bad model or table: line 1 field 4\n",
+    },
+    Row {
+        name: "no weighting without a criterion",
+        input: "import weighting\n,none\nnone,\nend\nexport weights\nexport scores\nexport matrix weighting\n",
+        output: "refused 9 unknown criterion\nrefused 9 unknown criterion\nrefused 9 unknown criterion\nrefused 9 unknown criterion\n",
+    },
     Row {
         name: "no criterion",
         input: "weights\nwcert\nscores\nmatrix weighting\nrows weighting\nfits weighting 0\nverify weighting\nend\nweigh none none 1\noption a\nsubtotals a\nstats\ngroups\n",

@@ -31,9 +31,17 @@ use Rattle.command_read.specs.declared.block.Held.TheVariants as held
 use Rattle.command_read.specs.declared.command.Command.{Command}
 use Rattle.command_read.specs.declared.command.Command.TheVariants as command
 use Rattle.model_core.specs.State.{ModelState}
-use Rattle.model_core.specs.Edits.{Edit, edited}
+use Rattle.model_core.specs.Edits.{Edit, edited, set_matrix}
 use Rattle.model_core.specs.Finding.{find_option}
 use Rattle.model_core.specs.declared.edit.EditFault.{EditFault}
+use Rattle.model_json.specs.Text.{load_of}
+use Rattle.model_json.specs.declared.fault.LoadFault.{LoadFault}
+use Rattle.model_json.specs.declared.fault.LoadFault.TheVariants as load_fault
+use Rattle.model_json.proofs.LoadLemmas.{load_never_wants_memory}
+use Rattle.table_csv.specs.Table.{AreRecordsOf, fault_of, table_matrix, IsImport, Imports}
+use Rattle.table_csv.specs.declared.fault.TableFault.{TableFault}
+use Rattle.table_csv.specs.declared.fault.TableFault.TheVariants as table_fault
+use Rattle.table_csv.proofs.RecordExistence.{every_text_has_records}
 use Rattle.report_text.specs.declared.reply.Detail.{Detail}
 use Rattle.report_text.specs.declared.reply.Detail.TheVariants as detail
 use Rattle.report_text.specs.declared.reply.Reply.{Reply}
@@ -48,13 +56,14 @@ use Rattle.session_edits.specs.Matrices.{matrix_reply, rows_reply, fit_reply, Te
 use Rattle.session_edits.specs.Scales.{Asks, worth_of, told}
 use Rattle.session_edits.specs.Scores.{with_worth, TakesAll, TakesBehind, AsksAll, WherePerformed, WhereWeighed, TellsSubtotals, missing, option_places, checked_scores, checked_subtotals}
 use Rattle.session_edits.specs.Groups.{groups_reply}
+use Rattle.session_edits.specs.Texts.{OfBlock, Loads, AnswersRead, AnswersTable, ReadsTable, dump_reply, judged_table, table_reply, AsTable}
 use Rattle.std.specs.Ordering.{int_eq}
 use Rattle.session_edits.proofs.WorthLemmas.{both}
 use Rattle.command_read.proofs.ReadValues.{AreReadValues, Keeps}
 use Rattle.session_edits.specs.Answer.{Of, OfElement, element_named, AsksSlack, Tells, AnswersBy, Answer}
 use Rattle.session_edits.specs.declared.question.Question.{Question}
 use Rattle.session_edits.specs.declared.question.Question.TheVariants as question
-use Rattle.session_edits.specs.declared.refusal.TheConstants.{UNKNOWN_COMMAND, UNKNOWN_CRITERION, UNKNOWN_OPTION, UNKNOWN_ELEMENT, WRONG_COUNT, NOTHING_TO_UNDO, PERFORMANCE_MISSING, BLOCK_CUT, BLOCK_TOO_LARGE, BAD_CERTIFICATE}
+use Rattle.session_edits.specs.declared.refusal.TheConstants.{UNKNOWN_COMMAND, UNKNOWN_CRITERION, UNKNOWN_OPTION, UNKNOWN_ELEMENT, WRONG_COUNT, NOTHING_TO_UNDO, PERFORMANCE_MISSING, BLOCK_CUT, BLOCK_TOO_LARGE, BAD_JSON, BAD_MODEL, BAD_CERTIFICATE}
 
 -- ---- what is taken
 
@@ -224,6 +233,52 @@ fits s vs read subject =
     (λ count. let h = tells_fit s.model subject vs read count in (h.0, s, (h.1, refl)))
     (refuses s WRONG_COUNT)
 
+-- ---- texts
+
+of_held : (s : SessionState) (block : Held) (Reads : List ℕ → Reply → SessionState → Type 0)
+    → ((bytes : List ℕ) → Answerable (Reads bytes)) → Answerable (OfBlock s block Reads)
+of_held s (held.Whole bytes) Reads answer = answer bytes
+of_held s held.Cut Reads answer = refuses s BLOCK_CUT
+of_held s held.Large Reads answer = refuses s BLOCK_TOO_LARGE
+
+reads : (s : SessionState) (read : Result ModelState LoadFault) → (read ≡ Err load_fault.NoMemory → ⊥) → Answerable (AnswersRead s read)
+reads s (Ok m) some = (reply.Ok, changed s m, (refl, refl))
+reads s (Err load_fault.BadJson) some = refuses s BAD_JSON
+reads s (Err (load_fault.BadModel pointer)) some = shows s (reply.Refused BAD_MODEL (detail.At pointer))
+reads s (Err load_fault.NoMemory) some = absurd (some refl)
+
+-- records are a table, or have a first fault
+read_of : (names : List (List ℕ)) (records : List (List (List ℕ))) → (read : Result Judgements TableFault) × IsImport names records read
+    × (read ≡ Err table_fault.NoMemory → ⊥)
+read_of names records = by_fault (fault_of names records) refl
+  where
+    by_fault : (fault : Option (ℕ × ℕ)) → fault_of names records ≡ fault
+        → (read : Result Judgements TableFault) × IsImport names records read × (read ≡ Err table_fault.NoMemory → ⊥)
+    by_fault None e = (Ok (table_matrix names records), (e, refl), λ no. cc)
+    by_fault (Some (line, field)) e = (Err (table_fault.BadTable line field), e, λ no. cc)
+
+imports : (names : List (List ℕ)) (bytes : List ℕ) (records : List (List (List ℕ))) → AreRecordsOf bytes records
+    → (read : Result Judgements TableFault) → IsImport names records read → (read ≡ Err table_fault.NoMemory → ⊥) → Imports names bytes read
+imports names bytes records are (Ok matrix) is some = (records, are, is)
+imports names bytes records are (Err (table_fault.BadTable line field)) is some = (records, are, is)
+imports names bytes records are (Err table_fault.NoMemory) is some = absurd (some refl)
+
+answers_table : (s : SessionState) (name : List ℕ) (read : Result Judgements TableFault) → (read ≡ Err table_fault.NoMemory → ⊥)
+    → Answerable (AnswersTable s name read)
+answers_table s name (Ok matrix) some = edits s (edited s.model (set_matrix name matrix))
+answers_table s name (Err (table_fault.BadTable line field)) some = shows s (reply.Refused BAD_MODEL (detail.Cell line field))
+answers_table s name (Err table_fault.NoMemory) some = absurd (some refl)
+
+reads_table : (s : SessionState) (name : List ℕ) (subject : Subject) (bytes : List ℕ) → Answerable (ReadsTable s name subject bytes)
+reads_table s name subject bytes =
+    let records = every_text_has_records bytes in
+    let read = read_of (names_of s.model subject) records.0 in
+    let answer = answers_table s name read.0 read.2 in
+    (answer.0, answer.1, (read.0, imports (names_of s.model subject) bytes records.0 records.1 read.0 read.1 read.2, answer.2))
+
+as_table : (Query : Reply → SessionState → Type 0) → Answerable Query → Answerable (AsTable Query)
+as_table Query answer = (table_reply answer.0, answer.1, (answer.0, answer.2, refl))
+
 -- ---- commands
 
 tells : (s : SessionState) (c : Command) → Keeps c → Answerable (Tells s c)
@@ -243,7 +298,7 @@ tells s (command.Subtotals name) keeps = subtotals s (find_option s.model name)
 tells s command.Groups keeps = shows s (groups_reply s.model)
 tells s command.Stats keeps = shows s (reply.Stats s.results.pivots (kept_count s.results))
 tells s command.Quit keeps = shows s reply.Ok
-tells s (command.Load a) keeps = refuses s UNKNOWN_COMMAND
+tells s (command.Load a) keeps = of_held s a (Loads s) (λ bytes. reads s (load_of bytes) (load_never_wants_memory bytes))
 tells s (command.Option a) keeps = refuses s UNKNOWN_COMMAND
 tells s (command.DropOption a) keeps = refuses s UNKNOWN_COMMAND
 tells s (command.Criterion a b) keeps = refuses s UNKNOWN_COMMAND
@@ -256,17 +311,17 @@ tells s (command.WeighOrder a) keeps = refuses s UNKNOWN_COMMAND
 tells s (command.Weigh a b c) keeps = refuses s UNKNOWN_COMMAND
 tells s (command.Unweigh a b) keeps = refuses s UNKNOWN_COMMAND
 tells s (command.Reach a b) keeps = refuses s UNKNOWN_COMMAND
-tells s (command.Import a b) keeps = refuses s UNKNOWN_COMMAND
+tells s (command.Import a b) keeps = of_subject s (matrix_named s.model a) _ (λ subject. of_held s b (ReadsTable s a subject) (reads_table s a subject))
 tells s (command.Repairs a) keeps = refuses s UNKNOWN_COMMAND
 tells s command.Wrepairs keeps = refuses s UNKNOWN_COMMAND
 tells s (command.Dominance a b) keeps = refuses s UNKNOWN_COMMAND
 tells s (command.Dcert a b) keeps = refuses s UNKNOWN_COMMAND
 tells s command.Dominances keeps = refuses s UNKNOWN_COMMAND
-tells s (command.ExportMatrix a) keeps = refuses s UNKNOWN_COMMAND
-tells s (command.ExportAnchored a) keeps = refuses s UNKNOWN_COMMAND
-tells s command.ExportWeights keeps = refuses s UNKNOWN_COMMAND
-tells s command.ExportScores keeps = refuses s UNKNOWN_COMMAND
-tells s command.Dump keeps = refuses s UNKNOWN_COMMAND
+tells s (command.ExportMatrix a) keeps = of_subject s (matrix_named s.model a) _ (λ subject. shows s (judged_table s.model subject))
+tells s (command.ExportAnchored a) keeps = as_table _ (of_subject s (criterion_named s.model a) _ (asks s question.Worth))
+tells s command.ExportWeights keeps = as_table _ (of_subject s (weighting_of s.model) _ (asks s question.Worth))
+tells s command.ExportScores keeps = as_table _ (where_weighed s (option_places s.model) (checked_scores s.model))
+tells s command.Dump keeps = shows s (dump_reply s.model)
 tells s (command.Group a b) keeps = refuses s UNKNOWN_COMMAND
 tells s (command.DropGroup a) keeps = refuses s UNKNOWN_COMMAND
 tells s (command.Place a b) keeps = refuses s UNKNOWN_COMMAND

@@ -10,3 +10,5 @@ pub mod ScoreLemmas
 pub mod TakeLemmas
 pub mod UnderLemmas
 pub mod WorthLemmas
+pub mod TextLemmas
+pub mod SplitLemmas

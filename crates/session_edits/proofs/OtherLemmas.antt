@@ -35,6 +35,13 @@ pub record IsOther (c : Command) : Type 0 where
   pub not-Quit : c ≡ command.Quit → ⊥
   pub not-Groups : c ≡ command.Groups → ⊥
   pub not-Subtotals : (a : List ℕ) → c ≡ command.Subtotals a → ⊥
+  pub not-Load : (a : Held) → c ≡ command.Load a → ⊥
+  pub not-Dump : c ≡ command.Dump → ⊥
+  pub not-Import : (a : List ℕ) (b : Held) → c ≡ command.Import a b → ⊥
+  pub not-ExportMatrix : (a : List ℕ) → c ≡ command.ExportMatrix a → ⊥
+  pub not-ExportAnchored : (a : List ℕ) → c ≡ command.ExportAnchored a → ⊥
+  pub not-ExportWeights : c ≡ command.ExportWeights → ⊥
+  pub not-ExportScores : c ≡ command.ExportScores → ⊥
 
 pub other_answers : {E : Type 0} (s : SessionState) (c : Command) (result : Result Reply E) (new : SessionState) → IsOther c → is_done_later c ≡ false
     → ((edit : Edit) → edit_of c ≡ Some edit → Replies (AnswersEdit s edit) s result new) → Replies (Answer s c) s result new
@@ -54,18 +61,18 @@ other_answers s command.Stats result new other later h = absurd (other.not-Stats
 other_answers s command.Quit result new other later h = absurd (other.not-Quit refl)
 other_answers s command.Groups result new other later h = absurd (other.not-Groups refl)
 other_answers s (command.Subtotals a) result new other later h = absurd (other.not-Subtotals a refl)
-other_answers s (command.Load a) result new other later h = absurd (let e = later in cc)
-other_answers s (command.Import a b) result new other later h = absurd (let e = later in cc)
+other_answers s (command.Load a) result new other later h = absurd (other.not-Load a refl)
+other_answers s (command.Import a b) result new other later h = absurd (other.not-Import a b refl)
 other_answers s (command.Repairs a) result new other later h = absurd (let e = later in cc)
 other_answers s command.Wrepairs result new other later h = absurd (let e = later in cc)
 other_answers s (command.Dominance a b) result new other later h = absurd (let e = later in cc)
 other_answers s (command.Dcert a b) result new other later h = absurd (let e = later in cc)
 other_answers s command.Dominances result new other later h = absurd (let e = later in cc)
-other_answers s (command.ExportMatrix a) result new other later h = absurd (let e = later in cc)
-other_answers s (command.ExportAnchored a) result new other later h = absurd (let e = later in cc)
-other_answers s command.ExportWeights result new other later h = absurd (let e = later in cc)
-other_answers s command.ExportScores result new other later h = absurd (let e = later in cc)
-other_answers s command.Dump result new other later h = absurd (let e = later in cc)
+other_answers s (command.ExportMatrix a) result new other later h = absurd (other.not-ExportMatrix a refl)
+other_answers s (command.ExportAnchored a) result new other later h = absurd (other.not-ExportAnchored a refl)
+other_answers s command.ExportWeights result new other later h = absurd (other.not-ExportWeights refl)
+other_answers s command.ExportScores result new other later h = absurd (other.not-ExportScores refl)
+other_answers s command.Dump result new other later h = absurd (other.not-Dump refl)
 other_answers s (command.Option a) result new other later h =
     alike (AnswersEdit s (add_option a)) (Answer s (command.Option a)) (λ r next k. k) s result new (h (add_option a) refl)
 other_answers s (command.DropOption a) result new other later h =

@@ -3,10 +3,18 @@ use Rattle.std.proofs.Common.{◌≡◌, ℕ, Bool, true, false, List, [], ◌�
 use Rattle.std.specs.Prelude.{MatchOption, ◌==◌, nat_lt}
 use Rattle.integers.specs.Fraction.{Fraction}
 use Rattle.command_read.specs.Later.{is_done_later}
+use Rattle.command_read.specs.declared.block.Held.{Held}
+use Rattle.command_read.specs.declared.block.Held.TheVariants as held
 use Rattle.command_read.specs.declared.command.Command.{Command}
 use Rattle.command_read.specs.declared.command.Command.TheVariants as command
+use Rattle.judgement_matrix.specs.Matrix.{Judgements}
 use Rattle.model_core.specs.State.{ModelState}
-use Rattle.model_core.specs.Edits.{Edit, edited}
+use Rattle.model_json.specs.Text.{load_of}
+use Rattle.model_json.specs.declared.fault.LoadFault.{LoadFault}
+use Rattle.model_json.specs.declared.fault.LoadFault.TheVariants as load_fault
+use Rattle.table_csv.specs.declared.fault.TableFault.{TableFault}
+use Rattle.table_csv.specs.declared.fault.TableFault.TheVariants as table_fault
+use Rattle.model_core.specs.Edits.{Edit, edited, set_matrix}
 use Rattle.model_core.specs.Finding.{find_option}
 use Rattle.model_core.specs.declared.edit.EditFault.{EditFault}
 use Rattle.report_text.specs.declared.reply.Detail.{Detail}
@@ -18,7 +26,8 @@ use Rattle.session_edits.specs.Subjects.{criterion_named, weighting_of, matrix_n
 use Rattle.session_edits.specs.Edits.{edit_of, Shows, Refuses, AnswersEdited, AnswersUndone}
 use Rattle.session_edits.specs.Matrices.{TellsFit, Fits}
 use Rattle.session_edits.specs.Scales.{Asks}
-use Rattle.session_edits.specs.Scores.{AsksAll, WherePerformed, WhereWeighed, TellsSubtotals, missing, option_places, checked_scores, checked_subtotals}
+use Rattle.session_edits.specs.Scores.{AsksAll, WherePerformed, WhereWeighed, TellsScores, TellsSubtotals, missing, option_places, checked_scores, checked_subtotals}
+use Rattle.session_edits.specs.Texts.{OfBlock, Loads, AnswersRead, AnswersTable, ReadsTable}
 use Rattle.session_edits.specs.Answer.{Of, OfElement, element_named, AsksSlack, Tells, AnswersBy, Answer}
 use Rattle.session_edits.specs.declared.refusal.TheConstants.{UNKNOWN_COMMAND, UNKNOWN_CRITERION, PERFORMANCE_MISSING, WRONG_COUNT}
 use Rattle.session_edits.specs.declared.question.Question.{Question}
@@ -77,6 +86,13 @@ subtotals : (s : SessionState) (o : Option ℕ) (r : Reply) (next : SessionState
 subtotals s None r next h = same s next h.1
 subtotals s (Some o) r next h = weighed s (o ∷ []) (checked_subtotals s.model o) r next h
 
+-- a question about a matrix, and about all, whatever is replied
+pub asked_of : (s : SessionState) (o : Option Subject) (r : Reply) (next : SessionState) → Of s o (Asks s question.Worth) r next → Keeps s next
+asked_of s o r next h = of_subject s o _ r next (λ subject. asked s question.Worth subject r next) h
+
+pub all_asked : (s : SessionState) (r : Reply) (next : SessionState) → TellsScores s r next → Keeps s next
+all_asked s r next h = weighed s (option_places s.model) (checked_scores s.model) r next h
+
 module _ (s next : SessionState) (number : ℕ) (detail : Detail) where
   abbrev r : Reply
   r = reply.Refused number detail
@@ -88,6 +104,23 @@ module _ (s next : SessionState) (number : ℕ) (detail : Detail) where
   undoes : (before : Option SessionState) → AnswersUndone s before r next → Keeps s next
   undoes None h = same s next h.1
   undoes (Some before) h = let no : reply.Refused number detail ≡ reply.Ok = h.0 in absurd (cc)
+
+  reads : (read : Result ModelState LoadFault) → AnswersRead s read r next → Keeps s next
+  reads (Ok m) h = let no : reply.Refused number detail ≡ reply.Ok = h.0 in absurd (cc)
+  reads (Err load_fault.BadJson) h = same s next h.1
+  reads (Err (load_fault.BadModel pointer)) h = same s next h.1
+  reads (Err load_fault.NoMemory) h = absurd h
+
+  of_table : (name : List ℕ) (read : Result Judgements TableFault) → AnswersTable s name read r next → Keeps s next
+  of_table name (Ok matrix) h = edits (edited s.model (set_matrix name matrix)) h
+  of_table name (Err (table_fault.BadTable line field)) h = same s next h.1
+  of_table name (Err table_fault.NoMemory) h = absurd h
+
+  of_block : (block : Held) (Reads : List ℕ → Reply → SessionState → Type 0) → ((bytes : List ℕ) → Reads bytes r next → Keeps s next)
+      → OfBlock s block Reads r next → Keeps s next
+  of_block (held.Whole bytes) Reads k h = k bytes h
+  of_block held.Cut Reads k h = same s next h.1
+  of_block held.Large Reads k h = same s next h.1
 
   tells : (c : Command) → Tells s c r next → Keeps s next
   tells command.Undo h = undoes (undone s) h
@@ -106,7 +139,7 @@ module _ (s next : SessionState) (number : ℕ) (detail : Detail) where
   tells command.Groups h = same s next h.1
   tells command.Stats h = same s next h.1
   tells command.Quit h = same s next h.1
-  tells (command.Load a) h = same s next h.1
+  tells (command.Load a) h = of_block a (Loads s) (λ bytes. reads (load_of bytes)) h
   tells (command.Option a) h = same s next h.1
   tells (command.DropOption a) h = same s next h.1
   tells (command.Criterion a b) h = same s next h.1
@@ -119,16 +152,16 @@ module _ (s next : SessionState) (number : ℕ) (detail : Detail) where
   tells (command.Weigh a b c) h = same s next h.1
   tells (command.Unweigh a b) h = same s next h.1
   tells (command.Reach a b) h = same s next h.1
-  tells (command.Import a b) h = same s next h.1
+  tells (command.Import a b) h = of_subject s (matrix_named s.model a) _ r next (λ subject. of_block b (ReadsTable s a subject) (λ bytes k. of_table a k.0 k.2)) h
   tells (command.Repairs a) h = same s next h.1
   tells command.Wrepairs h = same s next h.1
   tells (command.Dominance a b) h = same s next h.1
   tells (command.Dcert a b) h = same s next h.1
   tells command.Dominances h = same s next h.1
-  tells (command.ExportMatrix a) h = same s next h.1
-  tells (command.ExportAnchored a) h = same s next h.1
-  tells command.ExportWeights h = same s next h.1
-  tells command.ExportScores h = same s next h.1
+  tells (command.ExportMatrix a) h = of_subject s (matrix_named s.model a) _ r next (λ subject k. same s next k.1) h
+  tells (command.ExportAnchored a) h = asked_of s (criterion_named s.model a) h.0 next h.1
+  tells command.ExportWeights h = asked_of s (weighting_of s.model) h.0 next h.1
+  tells command.ExportScores h = all_asked s h.0 next h.1
   tells command.Dump h = same s next h.1
   tells (command.Group a b) h = same s next h.1
   tells (command.DropGroup a) h = same s next h.1

@@ -15,7 +15,8 @@ use Rattle.lp_macbeth.specs.Pairs.{ArePairs}
 use Rattle.lp_macbeth.specs.Rows.{row_of, tagged_rows}
 use Rattle.report_text.specs.Matrices.{IsJudgedOf}
 use Rattle.report_text.specs.Names.{IsPlace, IsTagOf}
-use Rattle.session_edits.specs.Matrices.{judged_at, with_bound}
+use Rattle.model_json.specs.Writing.{judged_at}
+use Rattle.session_edits.specs.Matrices.{with_bound}
 
 -- ---- judged pairs
 

@@ -16,11 +16,13 @@ use Rattle.session_edits.specs.Matrices.{matrix_reply, rows_reply, Fits, Verifie
 use Rattle.session_edits.specs.Scales.{Asks}
 use Rattle.session_edits.specs.Scores.{TellsScores, TellsSubtotals}
 use Rattle.session_edits.specs.Groups.{groups_reply}
+use Rattle.session_edits.specs.Texts.{OfBlock, Loads, dump_reply, ImportsInto, judged_table, AsTable}
 use Rattle.session_edits.specs.declared.question.Question.TheVariants as question
 use Rattle.session_edits.specs.declared.refusal.TheConstants.{UNKNOWN_COMMAND, UNKNOWN_CRITERION, UNKNOWN_ELEMENT}
 
 -- a query about a matrix, where there is that matrix
-abbrev pub Of : SessionState → Option Subject → (Subject → Reply → SessionState → Type 0) → Reply → SessionState → Type 0
+abbrev pub Of : SessionState → Option Subject → (Subject → Reply → SessionState → Type 0) → Reply → SessionState
+    → Type 0
 Of s None Query r next = Refuses s UNKNOWN_CRITERION r next
 Of s (Some subject) Query r next = Query subject r next
 
@@ -41,8 +43,10 @@ AsksSlack s name subject r next =
 -- what a command that is no edit asks for
 abbrev pub Tells : SessionState → Command → Reply → SessionState → Type 0
 Tells s command.Undo r next = AnswersUndo s r next
-Tells s (command.Matrix name) r next = Of s (matrix_named s.model name) (λ subject. Shows s (matrix_reply s.model subject)) r next
-Tells s (command.Rows name) r next = Of s (matrix_named s.model name) (λ subject. Shows s (rows_reply s.model subject)) r next
+Tells s (command.Matrix name) r next =
+    Of s (matrix_named s.model name) (λ subject. Shows s (matrix_reply s.model subject)) r next
+Tells s (command.Rows name) r next =
+    Of s (matrix_named s.model name) (λ subject. Shows s (rows_reply s.model subject)) r next
 Tells s (command.Fits name values) r next = Of s (matrix_named s.model name) (Fits s values) r next
 Tells s (command.Verify name block) r next = Of s (matrix_named s.model name) (Verifies s block) r next
 Tells s (command.Scale name) r next = Of s (criterion_named s.model name) (Asks s question.Scale) r next
@@ -56,6 +60,15 @@ Tells s (command.Subtotals name) r next = TellsSubtotals s (find_option s.model 
 Tells s command.Groups r next = Shows s (groups_reply s.model) r next
 Tells s command.Stats r next = Shows s (reply.Stats s.results.pivots (kept_count s.results)) r next
 Tells s command.Quit r next = Shows s reply.Ok r next
+Tells s (command.Load block) r next = OfBlock s block (Loads s) r next
+Tells s command.Dump r next = Shows s (dump_reply s.model) r next
+Tells s (command.Import name block) r next = Of s (matrix_named s.model name) (ImportsInto s name block) r next
+Tells s (command.ExportMatrix name) r next =
+    Of s (matrix_named s.model name) (λ subject. Shows s (judged_table s.model subject)) r next
+Tells s (command.ExportAnchored name) r next =
+    AsTable (Of s (criterion_named s.model name) (Asks s question.Worth)) r next
+Tells s command.ExportWeights r next = AsTable (Of s (weighting_of s.model) (Asks s question.Worth)) r next
+Tells s command.ExportScores r next = AsTable (TellsScores s) r next
 -- no other command comes here
 Tells s other r next = Refuses s UNKNOWN_COMMAND r next
 
@@ -72,6 +85,7 @@ Answer s command r next =
 -- ---- calls
 
 -- a call that answers so; where there is no memory, the state is as before
-abbrev pub Replies : {E : Type 0} → (Reply → SessionState → Type 0) → SessionState → Result Reply E → SessionState → Type 0
+abbrev pub Replies : {E : Type 0} → (Reply → SessionState → Type 0) → SessionState → Result Reply E → SessionState
+    → Type 0
 Replies Query old (Ok r) new = Query r new
 Replies Query old (Err none) new = new ≡ old

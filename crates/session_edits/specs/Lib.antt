@@ -5,4 +5,5 @@ pub mod Matrices
 pub mod Scales
 pub mod Scores
 pub mod Groups
+pub mod Texts
 pub mod Answer

@@ -1,14 +1,13 @@
 -- What is asked of a matrix alone: its judgements, its rows, whether values meet it, whether a certificate holds of it.
-use Rattle.std.specs.Prelude.{◌≡◌, ◌⊎◌, ℕ, ◌==◌, ℤ, Bool, List, [], ◌∷◌, map, length, Result, Ok, Err, if◌then◌else◌, MatchBool}
-use Rattle.std.specs.List.{flat_map, position_or_len}
+use Rattle.std.specs.Prelude.{◌≡◌, ◌⊎◌, ℕ, ◌==◌, ℤ, Bool, List, [], ◌∷◌, map, length, Result, Ok, Err, MatchBool}
+use Rattle.std.specs.List.{position_or_len}
 use Rattle.std.specs.Cmp.Lexicographic.{pointwise}
 use Rattle.integers.specs.Fraction.{Fraction}
 use Rattle.frac128.specs.declared.number.TooWide.{TooWide}
 use Rattle.frac128.specs.Problem.{ProblemData}
 use Rattle.frac128.specs.declared.problem.Cert.{Cert}
 use Rattle.frac128.specs.declared.problem.Row.{Row}
-use Rattle.judgement_matrix.specs.Range.{Bounds}
-use Rattle.judgement_matrix.specs.Matrix.{Judgements, pairs, cell_at}
+use Rattle.judgement_matrix.specs.Matrix.{Judgements}
 use Rattle.judgement_matrix.specs.Values.{IsAnswer}
 use Rattle.judgement_matrix.specs.declared.tag.Fit.{Fit}
 use Rattle.judgement_matrix.specs.declared.tag.Fit.TheVariants as fit
@@ -25,6 +24,7 @@ use Rattle.cert_check.specs.declared.verdict.Verdict.TheVariants.{Holds, Fails}
 use Rattle.command_read.specs.declared.block.Held.{Held}
 use Rattle.command_read.specs.declared.block.Held.TheVariants as held
 use Rattle.model_core.specs.State.{ModelState}
+use Rattle.model_json.specs.Writing.{judged_pairs}
 use Rattle.report_text.specs.declared.reply.Detail.TheVariants as detail
 use Rattle.report_text.specs.declared.reply.Reply.{Reply}
 use Rattle.report_text.specs.declared.reply.Reply.TheVariants as reply
@@ -36,14 +36,6 @@ use Rattle.session_edits.specs.Edits.{Refuses}
 use Rattle.session_edits.specs.declared.refusal.TheConstants.{WRONG_COUNT, BLOCK_CUT, BLOCK_TOO_LARGE, BAD_CERTIFICATE, TOO_WIDE}
 
 -- ---- `matrix` and `rows`
-
--- a pair and its range, where it is judged
-abbrev pub judged_at : Judgements → ℕ × ℕ → List (ℕ × ℕ × Bounds)
-judged_at m pair = if (cell_at m pair.0 pair.1).1 then (pair.0, pair.1, (cell_at m pair.0 pair.1).0) ∷ [] else []
-
--- the judged pairs in pair order, with their ranges
-abbrev pub judged_pairs : Judgements → List (ℕ × ℕ × Bounds)
-judged_pairs m = flat_map (judged_at m) (pairs m.size)
 
 abbrev pub matrix_reply : ModelState → Subject → Reply
 matrix_reply m subject = reply.Matrix (names_of m subject) (judged_pairs (matrix_of m subject))
@@ -70,7 +62,8 @@ fit_reply names (Err wide) = refused TOO_WIDE
 -- whether the values meet the matrix
 abbrev pub TellsFit : ModelState → Subject → List Fraction → Reply → Type 0
 TellsFit m subject values r =
-    (answer : Result Fit TooWide) × IsAnswer (matrix_of m subject) values answer × (r ≡ fit_reply (names_of m subject) answer)
+    (answer : Result Fit TooWide) × IsAnswer (matrix_of m subject) values answer
+    × (r ≡ fit_reply (names_of m subject) answer)
 
 -- there must be a value for each element
 abbrev pub Fits : SessionState → List Fraction → Subject → Reply → SessionState → Type 0
@@ -113,7 +106,8 @@ verdict_reply (Err wide) = refused TOO_WIDE
 
 -- the verdict on a certificate
 abbrev pub TellsVerdict : Judgements → CertText → Reply → Type 0
-TellsVerdict m cert r = (verdict : Result Verdict TooWide) × IsVerdict (check_of m cert) verdict × (r ≡ verdict_reply verdict)
+TellsVerdict m cert r =
+    (verdict : Result Verdict TooWide) × IsVerdict (check_of m cert) verdict × (r ≡ verdict_reply verdict)
 
 -- the bytes are the text of a certificate, or have a first bad line
 abbrev pub TellsOfText : Judgements → List ℕ → Reply → Type 0

@@ -62,7 +62,8 @@ is_same_value f g = int_eq (f.num *ℤ g.den) (g.num *ℤ f.den)
 -- the anchored scale of a criterion, unless good and neutral have one value
 abbrev pub anchored_of : CriterionState → List Fraction → Result (List Fraction) Reply
 anchored_of c values =
-    if is_same_value (fraction_at values c.good) (fraction_at values c.neutral) then Err (reply.Refused FLAT (detail.Place c.name))
+    if is_same_value (fraction_at values c.good) (fraction_at values c.neutral)
+    then Err (reply.Refused FLAT (detail.Place c.name))
     else or_too_wide (checked_anchor values c.good c.neutral)
 
 -- the weights, unless all values are 0

@@ -52,39 +52,48 @@ missing m (o ∷ os) = option_map_or Some (missing_on m o (places m)) (missing m
 -- ---- the places that are taken
 
 -- a worth of a subject, and the worths of the others
-abbrev pub with_worth : Result (List Fraction) Reply → Result (List (List Fraction)) Reply → Result (List (List Fraction)) Reply
+abbrev pub with_worth : Result (List Fraction) Reply → Result (List (List Fraction)) Reply
+    → Result (List (List Fraction)) Reply
 with_worth (Ok worth) (Ok worths) = Ok (worth ∷ worths)
 with_worth (Ok worth) (Err refusal) = Err refusal
 with_worth (Err refusal) others = Err refusal
 
 -- behind a worth the others are taken; behind a refusal none is
-abbrev pub TakesBehind : (ResultsState → Result (List (List Fraction)) Reply → ResultsState → Type 0) → Result (List Fraction) Reply
+abbrev pub TakesBehind : (ResultsState → Result (List (List Fraction)) Reply → ResultsState → Type 0)
+    → Result (List Fraction) Reply
     → ResultsState → Result (List (List Fraction)) Reply → ResultsState → Type 0
 TakesBehind TakesOthers (Err refusal) mid worths after = (worths ≡ Err refusal) × (after ≡ mid)
 TakesBehind TakesOthers (Ok worth) mid worths after =
-    (others : Result (List (List Fraction)) Reply) × TakesOthers mid others after × (worths ≡ with_worth (Ok worth) others)
+    (others : Result (List (List Fraction)) Reply) × TakesOthers mid others after
+    × (worths ≡ with_worth (Ok worth) others)
 
 -- the basic scale of each subject is taken in order, up to the first with a refusal
-abbrev pub TakesAll : ModelState → List Subject → ResultsState → Result (List (List Fraction)) Reply → ResultsState → Type 0
+abbrev pub TakesAll : ModelState → List Subject → ResultsState → Result (List (List Fraction)) Reply → ResultsState
+    → Type 0
 TakesAll m [] results worths after = (worths ≡ Ok []) × (after ≡ results)
 TakesAll m (subject ∷ subjects) results worths after =
     (answer : Result Basic TooWide) × (mid : ResultsState) × Takes m subject results answer mid
     × TakesBehind (TakesAll m subjects) (worth_of m subject answer) mid worths after
 
 -- a call that takes a worth: it may stop with the refusal, or find no memory
-abbrev pub TakesOr : {V : Type 0} → (V → List Fraction) → ModelState → Subject → ResultsState → Result V Stop → ResultsState
+abbrev pub TakesOr : {V : Type 0} → (V → List Fraction) → ModelState → Subject → ResultsState → Result V Stop
+    → ResultsState
     → Type 0
 TakesOr view m subject results (Ok worth) after =
-    (answer : Result Basic TooWide) × Takes m subject results answer after × (worth_of m subject answer ≡ Ok (view worth))
+    (answer : Result Basic TooWide) × Takes m subject results answer after
+    × (worth_of m subject answer ≡ Ok (view worth))
 TakesOr view m subject results (Err (stop.Refused r)) after =
-    (answer : Result Basic TooWide) × Takes m subject results answer after × (worth_of m subject answer ≡ Err r) × IsPrintable r
+    (answer : Result Basic TooWide) × Takes m subject results answer after × (worth_of m subject answer ≡ Err r)
+    × IsPrintable r
 TakesOr view m subject results (Err stop.NoMemory) after = Unit {0}
 
 -- the same of all
-abbrev pub TakesAllOr : {V : Type 0} → (V → List (List Fraction)) → ModelState → List Subject → ResultsState → Result V Stop
+abbrev pub TakesAllOr : {V : Type 0} → (V → List (List Fraction)) → ModelState → List Subject → ResultsState
+    → Result V Stop
     → ResultsState → Type 0
 TakesAllOr view m subjects results (Ok worths) after = TakesAll m subjects results (Ok (view worths)) after
-TakesAllOr view m subjects results (Err (stop.Refused r)) after = TakesAll m subjects results (Err r) after × IsPrintable r
+TakesAllOr view m subjects results (Err (stop.Refused r)) after =
+    TakesAll m subjects results (Err r) after × IsPrintable r
 TakesAllOr view m subjects results (Err stop.NoMemory) after = Unit {0}
 
 -- ---- scores
@@ -166,31 +175,40 @@ IsSumOf m sum.Scores = Unit {0}
 IsSumOf m (sum.Subtotals o) = o < length m.options
 
 -- a call that takes all worths and makes a reply of them: it may stop with a refusal, or find no memory
-abbrev pub WorksAll : ModelState → (List (List Fraction) → Result Reply Reply) → ResultsState → Result Reply Stop → ResultsState
+abbrev pub WorksAll : ModelState → (List (List Fraction) → Result Reply Reply) → ResultsState → Result Reply Stop
+    → ResultsState
     → Type 0
 WorksAll m make results (Ok r) after =
-    (worths : Result (List (List Fraction)) Reply) × TakesAll m (all_subjects m) results worths after × ((worths >>= make) ≡ Ok r)
+    (worths : Result (List (List Fraction)) Reply) × TakesAll m (all_subjects m) results worths after
+    × ((worths >>= make) ≡ Ok r)
 WorksAll m make results (Err (stop.Refused r)) after =
     (worths : Result (List (List Fraction)) Reply) × TakesAll m (all_subjects m) results worths after
     × ((worths >>= make) ≡ Err r) × IsPrintable r
 WorksAll m make results (Err stop.NoMemory) after = Unit {0}
 
 -- the worths of all criteria and of the weighting are taken, and a reply is made of them
-abbrev pub AsksAllFrom : ModelState → (List (List Fraction) → Result Reply Reply) → ResultsState → Reply → ResultsState → Type 0
+abbrev pub AsksAllFrom : ModelState → (List (List Fraction) → Result Reply Reply) → ResultsState → Reply → ResultsState
+    → Type 0
 AsksAllFrom m make results r after =
-    (worths : Result (List (List Fraction)) Reply) × TakesAll m (all_subjects m) results worths after × (r ≡ or_refused (worths >>= make))
+    (worths : Result (List (List Fraction)) Reply) × TakesAll m (all_subjects m) results worths after
+    × (r ≡ or_refused (worths >>= make))
 
 abbrev pub AsksAll : SessionState → (List (List Fraction) → Result Reply Reply) → Reply → SessionState → Type 0
-AsksAll s make r next = (results : ResultsState) × AsksAllFrom s.model make s.results r results × (next ≡ with_results s results)
+AsksAll s make r next =
+    (results : ResultsState) × AsksAllFrom s.model make s.results r results × (next ≡ with_results s results)
 
 -- where each of these options performs on each criterion
-abbrev pub WherePerformed : SessionState → List ℕ → (List (List Fraction) → Result Reply Reply) → Reply → SessionState → Type 0
+abbrev pub WherePerformed : SessionState → List ℕ → (List (List Fraction) → Result Reply Reply) → Reply → SessionState
+    → Type 0
 WherePerformed s os make r next = MatchOption (missing s.model os) (AsksAll s make r next)
     (λ detail. Shows s (reply.Refused PERFORMANCE_MISSING detail) r next)
 
 -- where there is a criterion
-abbrev pub WhereWeighed : SessionState → List ℕ → (List (List Fraction) → Result Reply Reply) → Reply → SessionState → Type 0
-WhereWeighed s os make r next = MatchBool (nat_lt 0 (length s.model.criteria)) (WherePerformed s os make r next) (Refuses s UNKNOWN_CRITERION r next)
+abbrev pub WhereWeighed : SessionState → List ℕ → (List (List Fraction) → Result Reply Reply) → Reply → SessionState
+    → Type 0
+WhereWeighed s os make r next =
+    MatchBool (nat_lt 0 (length s.model.criteria)) (WherePerformed s os make r next)
+    (Refuses s UNKNOWN_CRITERION r next)
 
 abbrev pub TellsScores : SessionState → Reply → SessionState → Type 0
 TellsScores s r next = WhereWeighed s (option_places s.model) (checked_scores s.model) r next

@@ -25,7 +25,8 @@ use std::alloc::Global;
 use value_scale::ScaleFault;
 
 impl Session {
-    /// Takes the basic scale of a matrix, and answers a question from it. The result is kept with the reply.
+    /// Takes the basic scale of a matrix, and answers a question from it. The result is kept with
+    /// the reply.
     pub(crate) fn ask(&mut self, subject: Subject, question: Question) -> Result<Reply, NoMemory>
         requires subject { IsSubject self.old.model subject }
         requires question { IsQuestionOf self.old.model subject question }
@@ -51,7 +52,8 @@ fn asked(
     requires subject { IsSubject model.now subject }
     requires question { IsQuestionOf model.now subject question }
     requires results { AreResults model.now results.old }
-    ensures answer { IfOk result (λ r. AsksFrom model.now question subject results.old r results.new) }
+    ensures answer { IfOk result (λ r. AsksFrom model.now question subject
+        results.old r results.new) }
     ensures printable { IfOk result IsPrintable }
     ensures results { AreResults model.now results.new }
 {
@@ -76,7 +78,8 @@ impl Session {
 
     /// The subtotals of an option.
     pub(crate) fn subtotals(&mut self, name: &Name) -> Result<Reply, NoMemory>
-        ensures answer { Replies (TellsSubtotals self.old (find_option self.old.model name.now)) self.old result self.new }
+        ensures answer { Replies (TellsSubtotals self.old (find_option self.old.model name.now))
+            self.old result self.new }
         ensures printable { IfOk result IsPrintable }
     {
         let Some(option) = self.model().find_option(name.as_bytes()) else {
@@ -88,7 +91,9 @@ impl Session {
     // The same of an option that is there.
     fn subtotals_of(&mut self, option: usize) -> Result<Reply, NoMemory>
         requires { option < length self.old.model.options }
-        ensures answer { Replies (WhereWeighed self.old (option ∷ []) (checked_subtotals self.old.model option)) self.old result self.new }
+        ensures answer { Replies
+            (WhereWeighed self.old (option ∷ []) (checked_subtotals self.old.model option))
+            self.old result self.new }
         ensures printable { IfOk result IsPrintable }
     {
         if self.model().criteria() == 0 {
@@ -97,7 +102,8 @@ impl Session {
         self.ask_all(option, 1, Sum::Subtotals(option))
     }
 
-    // Takes what scores need of all criteria and the weighting, where so many options from one on perform on each criterion.
+    // Takes what scores need of all criteria and the weighting, where so many options from one on
+    // perform on each criterion.
     fn ask_all(&mut self, first: usize, count: usize, sum: Sum) -> Result<Reply, NoMemory>
         requires some { IsSubject self.old.model Subject.Weighting }
         requires options { first + count ≤ length self.old.model.options }
@@ -116,7 +122,8 @@ impl Session {
     fn sum_up(&mut self, sum: Sum) -> Result<Reply, NoMemory>
         requires some { IsSubject self.old.model Subject.Weighting }
         requires sum { IsSumOf self.old.model sum }
-        ensures answer { Replies (AsksAll self.old (checked_sum self.old.model sum)) self.old result self.new }
+        ensures answer { Replies (AsksAll self.old (checked_sum self.old.model sum))
+            self.old result self.new }
         ensures printable { IfOk result IsPrintable }
     {
         let mut results = self.state.results().copy(self.alloc)?;
@@ -132,7 +139,8 @@ fn summed(alloc: Global, model: &Model, results: &mut Results, sum: Sum) -> Resu
     requires some { IsSubject model.now Subject.Weighting }
     requires sum { IsSumOf model.now sum }
     requires results { AreResults model.now results.old }
-    ensures answer { IfOk result (λ r. AsksAllFrom model.now (checked_sum model.now sum) results.old r results.new) }
+    ensures answer { IfOk result (λ r. AsksAllFrom model.now (checked_sum model.now sum)
+        results.old r results.new) }
     ensures printable { IfOk result IsPrintable }
     ensures results { AreResults model.now results.new }
 {

@@ -21,7 +21,22 @@ impl Session {
         ensures printable { IfOk result IsPrintable }
     {
         let mut model = self.state.scratch()?;
-        match make(self.alloc, &mut model, command) {
+        let outcome = make(self.alloc, &mut model, command);
+        self.settle(model, outcome)
+    }
+
+    /// Goes on to the model that an edit gave, which is the present one where the edit was refused.
+    pub(crate) fn settle(
+        &mut self,
+        model: Model,
+        outcome: Result<(), EditFault>,
+    ) -> Result<Reply, NoMemory>
+        requires { OnErr outcome (model ≡ self.old.model) }
+        ensures answer { (edit : Edit) → Edits self.old.model edit outcome model
+            → Replies (AnswersEdit self.old edit) self.old result self.new }
+        ensures printable { IfOk result IsPrintable }
+    {
+        match outcome {
             Ok(()) => {
                 self.state.change_to(model)?;
                 Ok(Reply::Ok)

@@ -12,6 +12,7 @@ mod refusal;
 mod scales;
 mod scores;
 mod session;
+mod texts;
 mod verify;
 
 pub use question::{Question, Sum};

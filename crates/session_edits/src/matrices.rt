@@ -9,7 +9,8 @@ ghost use Rattle.report_text.specs.Matrices.{IsJudgedOf};
 ghost use Rattle.report_text.specs.Reply.{IsPrintable};
 ghost use Rattle.session_state.specs.State.{matrix_of};
 ghost use Rattle.session_state.specs.Taking.{IsSubject};
-ghost use Rattle.session_edits.specs.Matrices.{judged_at, judged_pairs, matrix_reply, with_bound, row_bounds, rows_reply, TellsFit};
+ghost use Rattle.model_json.specs.Writing.{judged_at, judged_pairs};
+ghost use Rattle.session_edits.specs.Matrices.{matrix_reply, with_bound, row_bounds, rows_reply, TellsFit};
 
 use crate::NoMemory;
 use crate::names::names_of;
@@ -70,7 +71,8 @@ fn push_judged(
     pair: (u8, u8),
 ) -> Result<(), NoMemory>
     requires { IsPair matrix.now.size pair.0 pair.1 }
-    ensures { IfOk result (λ _. judged.new.items ≡ judged.old.items ++ judged_at matrix.now pair) }
+    ensures { IfOk result
+        (λ _. judged.new.items ≡ judged.old.items ++ judged_at matrix.now pair) }
 {
     let (upper, lower) = (usize::from(pair.0), usize::from(pair.1));
     let (range, is_judged) = matrix.get(upper, lower);

@@ -67,7 +67,8 @@ fn swing_names(alloc: Global, model: &Model) -> Result<List<Name>, NoMemory>
     Ok(List::make(names))
 }
 
-// Adds `none`. It is a name, so the last case never comes; want of memory is the one answer that is free there.
+// Adds `none`. It is a name, so the last case never comes; want of memory is the one answer that is
+// free there.
 fn push_none(alloc: Global, names: &mut Vec<Name>) -> Result<(), NoMemory>
     ensures { IfOk result (λ _. names.new.items ≡ names.old.items ++ codes "none" ∷ []) }
 {

@@ -34,6 +34,10 @@ pub(crate) const BLOCK_CUT: u8 = 15;
 
 pub(crate) const BLOCK_TOO_LARGE: u8 = 16;
 
+pub(crate) const BAD_JSON: u8 = 17;
+
+pub(crate) const BAD_MODEL: u8 = 18;
+
 pub(crate) const BAD_CERTIFICATE: u8 = 19;
 
 pub(crate) const NOTHING_TO_UNDO: u8 = 20;
@@ -119,8 +123,10 @@ pub(crate) fn stopped(number: u8) -> Stop
 
 /// The reply that was worked, or the refusal at which it stopped.
 pub(crate) fn reply_of(worked: Result<Reply, Stop>) -> Result<Reply, NoMemory>
-    ensures value { (want : Result Reply Reply) → Works (λ x. x) want worked → IfOk result (λ r. r ≡ or_refused want) }
-    ensures printable { IfOk worked IsPrintable → (want : Result Reply Reply) → Works (λ x. x) want worked
+    ensures value { (want : Result Reply Reply) → Works (λ x. x) want worked → IfOk result
+        (λ r. r ≡ or_refused want) }
+    ensures printable { IfOk worked IsPrintable
+        → (want : Result Reply Reply) → Works (λ x. x) want worked
         → IfOk result IsPrintable }
 {
     match worked {

@@ -24,7 +24,8 @@ use value_scale::ScaleFault;
 
 // ---- performances
 
-/// The first performance that is missing of so many options from one on, by option and then by criterion.
+/// The first performance that is missing of so many options from one on, by option and then by
+/// criterion.
 pub(crate) fn missing(model: &Model, first: usize, count: usize) -> Result<Option<Detail>, NoMemory>
     requires { first + count ≤ length model.now.options }
     ensures { IfOk result (λ detail. detail ≡ missing model.now (range_with_len first count)) }
@@ -95,7 +96,8 @@ pub(crate) fn take_worths(
 ) -> Result<Vec<List<Frac>>, Stop>
     requires some { IsSubject model.now Subject.Weighting }
     requires results { AreResults model.now results.old }
-    ensures takes { TakesAllOr (λ v. v.items) model.now (all_subjects model.now) results.old result results.new }
+    ensures takes { TakesAllOr (λ v. v.items) model.now (all_subjects model.now)
+        results.old result results.new }
     ensures results { AreResults model.now results.new }
 {
     let mut worths = Vec::new(alloc);
@@ -177,7 +179,8 @@ fn values_at(
 ) -> Result<Vec<Frac>, NoMemory>
     requires option { option < length model.now.options }
     requires criteria { All (λ c. c < length model.now.criteria) criteria.now }
-    ensures { IfOk result (λ v. v.items ≡ map (value_at model.now worths.now option) criteria.now) }
+    ensures { IfOk result
+        (λ v. v.items ≡ map (value_at model.now worths.now option) criteria.now) }
 {
     let mut values = Vec::new(alloc);
     for criterion in criteria {
@@ -196,7 +199,8 @@ fn partial_score(
 ) -> Result<Frac, Stop>
     requires option { option < length model.now.options }
     requires criteria { All (λ c. c < length model.now.criteria) criteria.now }
-    ensures { Works (λ f. f) (or_too_wide (partial_score model.now worths.now option criteria.now)) result }
+    ensures { Works (λ f. f) (or_too_wide (partial_score model.now worths.now option criteria.now))
+        result }
 {
     let weights = weights_at(alloc, model, worths, criteria)?;
     let values = values_at(alloc, model, worths, option, criteria)?;
@@ -291,7 +295,8 @@ fn push_under(
     requires criterion { criterion < length model.now.criteria }
     requires group { group < length model.now.groups }
     ensures { IfOk result (λ _. some.new.items ≡ some.old.items
-        ++ (if is_under model.now.groups (criterion_at model.now criterion).group group then criterion ∷ [] else [])) }
+        ++ (if is_under model.now.groups (criterion_at model.now criterion).group group
+        then criterion ∷ [] else [])) }
 {
     if is_under(model, criterion, group) {
         some.push(criterion)?;
@@ -307,7 +312,8 @@ fn each_part(
     option: usize,
 ) -> Result<Vec<Frac>, Stop>
     requires { option < length model.now.options }
-    ensures { Works (λ v. v.items) (or_too_wide (checked_parts model.now worths.now option)) result }
+    ensures { Works (λ v. v.items) (or_too_wide (checked_parts model.now worths.now option))
+        result }
 {
     let mut parts = Vec::new(alloc);
     for group in 0..model.groups() {

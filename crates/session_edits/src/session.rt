@@ -14,6 +14,7 @@ use crate::groups::groups_reply;
 use crate::matrices::{fit_reply, matrix_reply, rows_reply};
 use crate::question::Question;
 use crate::refusal::{UNKNOWN_COMMAND, UNKNOWN_CRITERION, UNKNOWN_ELEMENT, WRONG_COUNT, refused};
+use crate::texts::{dump_reply, judged_table};
 use crate::verify::block_reply;
 use command_read::{Command, Held, is_done_later};
 use frac128::Frac;
@@ -86,7 +87,8 @@ impl Session {
         self.state.results().kept(Subject::Weighting)
     }
 
-    /// Does what a command says. A refusal leaves the model and the history as they were, and want of memory leaves all.
+    /// Does what a command says. A refusal leaves the model and the history as they were, and want of
+    /// memory leaves all.
     pub fn apply(&mut self, command: &Command) -> Result<Reply, NoMemory>
         ensures answer { Replies (Answer self.old command.now) self.old result self.new }
         ensures printable { IfOk result IsPrintable }
@@ -111,6 +113,13 @@ impl Session {
             Command::Groups => groups_reply(self.alloc, self.state.model()),
             Command::Stats => Ok(self.stats()),
             Command::Quit => Ok(Reply::Ok),
+            Command::Load(block) => self.load(block),
+            Command::Dump => dump_reply(self.alloc, self.state.model()),
+            Command::Import(name, block) => self.import(name, block),
+            Command::ExportMatrix(name) => self.export_matrix(name),
+            Command::ExportAnchored(name) => self.export_worth(self.criterion_named(name)),
+            Command::ExportWeights => self.export_worth(self.weighting()),
+            Command::ExportScores => self.export_scores(),
             _ => self.edit(command),
         }
     }
@@ -138,8 +147,8 @@ impl Session {
         }
     }
 
-    // The criterion of this name, or for `weighting` the weighting.
-    fn matrix_named(&self, name: &Name) -> Option<Subject>
+    /// The criterion of this name, or for `weighting` the weighting.
+    pub(crate) fn matrix_named(&self, name: &Name) -> Option<Subject>
         ensures subject { result ≡ matrix_named self.now.model name.now }
         ensures is { IfSome result (IsSubject self.now.model) }
     {
@@ -152,7 +161,8 @@ impl Session {
 
     // The judged pairs of a matrix.
     fn matrix(&self, name: &Name) -> Result<Reply, NoMemory>
-        ensures answer { Replies (Answer self.now (Command.Matrix name.now)) self.now result self.now }
+        ensures answer { Replies (Answer self.now (Command.Matrix name.now))
+            self.now result self.now }
         ensures printable { IfOk result IsPrintable }
     {
         match self.matrix_named(name) {
@@ -161,9 +171,22 @@ impl Session {
         }
     }
 
+    // The judged pairs of a matrix as a table.
+    fn export_matrix(&self, name: &Name) -> Result<Reply, NoMemory>
+        ensures answer { Replies (Answer self.now (Command.ExportMatrix name.now))
+            self.now result self.now }
+        ensures printable { IfOk result IsPrintable }
+    {
+        match self.matrix_named(name) {
+            Some(subject) => judged_table(self.alloc, self.model(), subject),
+            None => Ok(refused(UNKNOWN_CRITERION)),
+        }
+    }
+
     // The rows of a matrix.
     fn rows(&self, name: &Name) -> Result<Reply, NoMemory>
-        ensures answer { Replies (Answer self.now (Command.Rows name.now)) self.now result self.now }
+        ensures answer { Replies (Answer self.now (Command.Rows name.now))
+            self.now result self.now }
         ensures printable { IfOk result IsPrintable }
     {
         match self.matrix_named(name) {
@@ -175,7 +198,8 @@ impl Session {
     // Whether values meet a matrix.
     fn fits(&self, name: &Name, values: &[Frac]) -> Result<Reply, NoMemory>
         requires { IsTrue (ends_in_zero values.now) }
-        ensures answer { Replies (Answer self.now (Command.Fits name.now values.now)) self.now result self.now }
+        ensures answer { Replies (Answer self.now (Command.Fits name.now values.now))
+            self.now result self.now }
         ensures printable { IfOk result IsPrintable }
     {
         let Some(subject) = self.matrix_named(name) else {
@@ -190,7 +214,8 @@ impl Session {
 
     // Whether a certificate holds of a matrix.
     fn verify(&self, name: &Name, block: &Held) -> Result<Reply, NoMemory>
-        ensures answer { Replies (Answer self.now (Command.Verify name.now block.now)) self.now result self.now }
+        ensures answer { Replies (Answer self.now (Command.Verify name.now block.now))
+            self.now result self.now }
         ensures printable { IfOk result IsPrintable }
     {
         match self.matrix_named(name) {
@@ -199,11 +224,17 @@ impl Session {
         }
     }
 
-    // A question about a matrix, where there is that matrix.
-    fn ask_of(&mut self, subject: Option<Subject>, question: Question) -> Result<Reply, NoMemory>
+    /// A question about a matrix, where there is that matrix.
+    pub(crate) fn ask_of(
+        &mut self,
+        subject: Option<Subject>,
+        question: Question,
+    ) -> Result<Reply, NoMemory>
         requires subject { IfSome subject (IsSubject self.old.model) }
-        requires question { IfSome subject (λ subject. IsQuestionOf self.old.model subject question) }
-        ensures answer { Replies (Of self.old subject (Asks self.old question)) self.old result self.new }
+        requires question { IfSome subject
+            (λ subject. IsQuestionOf self.old.model subject question) }
+        ensures answer { Replies (Of self.old subject (Asks self.old question))
+            self.old result self.new }
         ensures printable { IfOk result IsPrintable }
     {
         match subject {
@@ -214,7 +245,8 @@ impl Session {
 
     // The room of an element.
     fn slack(&mut self, name: &Name, element: &Name) -> Result<Reply, NoMemory>
-        ensures answer { Replies (Of self.old (criterion_named self.old.model name.now) (AsksSlack self.old element.now))
+        ensures answer { Replies
+            (Of self.old (criterion_named self.old.model name.now) (AsksSlack self.old element.now))
             self.old result self.new }
         ensures printable { IfOk result IsPrintable }
     {
@@ -227,7 +259,8 @@ impl Session {
     // The same for a criterion that is there.
     fn slack_of(&mut self, at: usize, element: &Name) -> Result<Reply, NoMemory>
         requires { at < length self.old.model.criteria }
-        ensures answer { Replies (AsksSlack self.old element.now (Subject.Criterion at)) self.old result self.new }
+        ensures answer { Replies (AsksSlack self.old element.now (Subject.Criterion at))
+            self.old result self.new }
         ensures printable { IfOk result IsPrintable }
     {
         match self.element_named(at, element) {
@@ -240,7 +273,8 @@ impl Session {
     fn element_named(&self, at: usize, element: &Name) -> Option<usize>
         requires { at < length self.now.model.criteria }
         ensures place { result ≡ element_named self.now (Subject.Criterion at) element.now }
-        ensures within { IfSome result (λ e. (1 ≤ e) × (e ≤ (criterion_at self.now.model at).matrix.size)) }
+        ensures within { IfSome result
+            (λ e. (1 ≤ e) × (e ≤ (criterion_at self.now.model at).matrix.size)) }
     {
         let criterion = self.model().criterion(at);
         // For the proofs alone: its matrix has its elements.
@@ -250,7 +284,8 @@ impl Session {
 
     // How many pivots were made, and how many results are kept.
     fn stats(&self) -> Reply
-        ensures answer { result ≡ Reply.Stats self.now.results.pivots (kept_count self.now.results) }
+        ensures answer { result
+            ≡ Reply.Stats self.now.results.pivots (kept_count self.now.results) }
         ensures printable { IsPrintable result }
     {
         Reply::Stats {

@@ -1,6 +1,6 @@
 use Rattle.std.proofs.Common.{◌≡◌, ◌++◌, drop}
 use Rattle.std.specs.List.{flat_map}
-use Rattle.session_edits.specs.Matrices.{judged_at}
+use Rattle.model_json.specs.Writing.{judged_at}
 use Rattle.session_edits.proofs.matrices.judged_of.Given as goal
 
 abbrev pub invariant-loop-pair : goal.invariant-loop-pair

@@ -23,6 +23,13 @@ returns-in_default c =
       not-Quit = c.in_default.not-Quit;
       not-Groups = c.in_default.not-Groups;
       not-Subtotals = c.in_default.not-Subtotals;
+      not-Load = c.in_default.not-Load;
+      not-Dump = c.in_default.not-Dump;
+      not-Import = c.in_default.not-Import;
+      not-ExportMatrix = c.in_default.not-ExportMatrix;
+      not-ExportAnchored = c.in_default.not-ExportAnchored;
+      not-ExportWeights = c.in_default.not-ExportWeights;
+      not-ExportScores = c.in_default.not-ExportScores;
     } in
     record {
       answer = other_answers c.args.self.now c.args.command.now c.edit.result c.edit.new.self other later c.edit.ensures.answer;
