@@ -72,6 +72,10 @@ parent_of groups g = option_and_then (λ group. group.parent) (slice_get groups 
 abbrev pub AreGroups : List GroupState → Type 0
 AreGroups groups = (g above : ℕ) → parent_of groups g ≡ Some above → above < g
 
+-- a model without options, criteria and groups
+abbrev pub empty_model : ModelState
+empty_model = record { options = []; criteria = []; groups = []; performances = []; order = []; weighting = unjudged 1 }
+
 -- what a model keeps, besides names that are apart
 pub record IsModel (m : ModelState) : Type 0 where
   pub few_options : length m.options ≤ OPTIONS

@@ -1,10 +1,9 @@
 //! The model and its look-ups.
 ghost use Rattle.std.specs.Prelude.{◌≡◌, ◌+◌, ◌-◌, ◌<◌, ◌≤◌, ◌↔◌, length, IfOk, IfSome, IsTrue, ◌==◌, position, slice_get, slice_index_or, Some, None, []};
 ghost use Rattle.std.specs.List.{position_or_len};
-ghost use Rattle.judgement_matrix.specs.Matrix.{unjudged};
 ghost use Rattle.judgement_matrix.specs.declared.matrix.TheConstants.{LIMIT};
 ghost use Rattle.model_core.specs.Lists.{AreNamedApart};
-ghost use Rattle.model_core.specs.State.{AreGroups};
+ghost use Rattle.model_core.specs.State.{AreGroups, empty_model};
 ghost use Rattle.model_core.specs.Finding.{find_option, find_criterion, find_group, find_element, criterion_at, place_in, weigh_place, matrix_size, LiesUnder};
 
 use crate::criterion::Criterion;
@@ -41,7 +40,7 @@ impl std::marker::Model for Model {
 impl Model {
     /// A model without options, criteria and groups.
     pub fn empty(alloc: Global) -> Result<Model, NoMemory>
-        ensures { IfOk result (λ m. m ≡ record { options = []; criteria = []; groups = []; performances = []; order = []; weighting = unjudged 1 }) }
+        ensures { IfOk result (λ m. m ≡ empty_model) }
     {
         Ok(Model {
             options: Roster::new(alloc),

@@ -9,13 +9,13 @@ use Rattle.serde_json.specs.View.{items_of}
 use Rattle.judgement_matrix.proofs.EveryLemmas.{every-append_right}
 use Rattle.model_core.specs.Names.{is_name}
 use Rattle.model_core.specs.Lists.{AreNamedApart, find}
-use Rattle.model_core.specs.State.{GroupState, ModelState, AreGroups, parent_of}
+use Rattle.model_core.specs.State.{GroupState, ModelState, AreGroups, parent_of, empty_model}
 use Rattle.model_core.specs.Edits.{with_group}
 use Rattle.model_core.specs.declared.limits.TheConstants.{GROUPS}
 use Rattle.model_json.specs.declared.place.Place.{Place}
 use Rattle.model_json.specs.declared.place.Place.TheVariants as place
 use Rattle.model_json.specs.Steps.{◌>>=◌, found_or, each_into}
-use Rattle.model_json.specs.Reading.{group_or_root, group_of, nothing_yet}
+use Rattle.model_json.specs.Reading.{group_or_root, group_of}
 use Rattle.model_json.specs.Writing.{group_name, with_group_key, group_data}
 use Rattle.model_json.proofs.EachAgain.{each_again}
 use Rattle.model_json.proofs.NamesAgain.{name_again, new_name, found_before, get-seam}
@@ -25,7 +25,7 @@ no_group = record { name = []; parent = None }
 
 -- the model of which only the groups were read
 abbrev pub with_groups : List GroupState → ModelState
-with_groups groups = record nothing_yet { groups = groups }
+with_groups groups = record empty_model { groups = groups }
 
 -- a key that names this group
 pub found_group : (at_place : Place) (before : ModelState) (name : List ℕ) (g : ℕ) → find (λ x. x.name) before.groups name ≡ Some g
@@ -70,5 +70,5 @@ module _ (m : ModelState) (few : length m.groups ≤ GROUPS) (apart : AreNamedAp
       under_again m (with_groups seen) (length seen) g.name g.parent room name free
       (parent_again (place.GroupParent (length seen)) m seen (g ∷ rest) g.parent e apart above)
 
-  pub groups_again : each_into group_of 0 nothing_yet (items_of (map (group_data m) m.groups)) ≡ Ok (with_groups m.groups)
+  pub groups_again : each_into group_of 0 empty_model (items_of (map (group_data m) m.groups)) ≡ Ok (with_groups m.groups)
   groups_again = each_again group_of (group_data m) with_groups m.groups group_again [] m.groups refl

@@ -11,10 +11,10 @@ use Rattle.word_table.specs.Words.{AreApart}
 use Rattle.judgement_matrix.specs.Matrix.{unjudged}
 use Rattle.judgement_matrix.proofs.EveryLemmas.{every-append_right, every_weaker}
 use Rattle.model_core.specs.Lists.{AreNamedApart, find}
-use Rattle.model_core.specs.State.{ModelState, IsRow, no_criterion}
+use Rattle.model_core.specs.State.{ModelState, IsRow, no_criterion, empty_model}
 use Rattle.model_core.specs.Edits.{are_numbers_apart, is_permutation}
 use Rattle.model_json.specs.Steps.{each_into}
-use Rattle.model_json.specs.Reading.{ranked_of, order_of, weighting_of, format_of, group_of, criterion_of, option_of, nothing_yet, model_of}
+use Rattle.model_json.specs.Reading.{ranked_of, order_of, weighting_of, format_of, group_of, criterion_of, option_of, model_of}
 use Rattle.model_json.specs.Writing.{array_of, criterion_name, group_data, criterion_data, option_data, options_with_rows, weighting_data, model_data}
 use Rattle.model_json.specs.Text.{json_of, load_of}
 use Rattle.model_json.specs.Kept.{IsNamed, IsNamedCriterion, IsNamedModel}
@@ -80,7 +80,7 @@ weighting_again m is =
 
 -- the model of which the groups were read, and that of which the criteria were read too
 abbrev after_groups : ModelState → ModelState
-after_groups m = record nothing_yet { groups = m.groups }
+after_groups m = record empty_model { groups = m.groups }
 
 abbrev after_criteria : ModelState → ModelState
 after_criteria m = record {
@@ -92,7 +92,7 @@ after_criteria m = record {
   weighting = unjudged (length m.criteria + 1);
 }
 
-parts_again : (m : ModelState) → each_into group_of 0 nothing_yet (items_of (map (group_data m) m.groups)) ≡ Ok (after_groups m)
+parts_again : (m : ModelState) → each_into group_of 0 empty_model (items_of (map (group_data m) m.groups)) ≡ Ok (after_groups m)
     → each_into (criterion_of true) 0 (after_groups m) (items_of (map (criterion_data m) m.criteria)) ≡ Ok (after_criteria m)
     → each_into option_of 0 (after_criteria m) (items_of (map (option_data m) (options_with_rows m.options m.performances))) ≡ Ok (without_weighting m)
     → weighting_of (without_weighting m) (Some (weighting_data m)) ≡ Ok m

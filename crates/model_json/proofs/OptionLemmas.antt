@@ -179,13 +179,6 @@ row_is place cs (Some d) row h =
 
 -- ---- an option performs on one criterion after the other
 
-next_one : {A : Type 0} (n : ℕ) (v : A) → replicate n v ++ v ∷ [] ≡ replicate (suc n) v
-next_one zero v = refl
-next_one (suc n) v = ap (λ xs. v ∷ xs) (next_one n v)
-
-pub replicate-push : {A : Type 0} (n : ℕ) (v : A) → replicate n v ++ v ∷ [] ≡ replicate (n + 1) v
-replicate-push n v = rw add-one (next_one n v)
-
 -- the first performances of a row
 abbrev pub first_ones : List (Option ℕ) → ℕ → List (Option ℕ)
 first_ones [] i = []

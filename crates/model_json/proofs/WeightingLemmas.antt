@@ -40,9 +40,6 @@ places-push m (first ∷ names) order name c is at =
 abbrev pub Ranked : ModelState → List Value → ℕ → List (List ℕ) → Type 0
 Ranked m vs k names = (order : List ℕ) × Left (ranked_of m) [] vs k order × (places_of m names ≡ Some order)
 
-pub no_names : (m : ModelState) (vs : List Value) → Ranked m vs 0 []
-no_names m vs = ([], refl, refl)
-
 module _ (m : ModelState) (vs : List Value) (k : ℕ) (names : List (List ℕ)) (left : Ranked m vs k names) where
   pub ranked_done : length vs ≤ k → read_as (λ order. Some order) (each_into (ranked_of m) 0 [] (items_view vs)) ≡ Ok (places_of m names)
   ranked_done le = rw (is_done (ranked_of m) [] vs k left.0 left.1 le) (ap Ok (sym left.2))

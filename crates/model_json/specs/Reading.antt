@@ -9,7 +9,7 @@ use Rattle.judgement_matrix.specs.Range.{bounds}
 use Rattle.judgement_matrix.specs.Matrix.{Judgements, unjudged, judged, cell_at}
 use Rattle.judgement_matrix.specs.declared.matrix.TheConstants.{LIMIT}
 use Rattle.model_core.specs.Lists.{find}
-use Rattle.model_core.specs.State.{CriterionState, ModelState, is_reserved}
+use Rattle.model_core.specs.State.{CriterionState, ModelState, empty_model, is_reserved}
 use Rattle.model_core.specs.Finding.{find_option, find_criterion, find_group}
 use Rattle.model_core.specs.Edits.{with_criterion, with_group, is_permutation}
 use Rattle.model_core.specs.declared.limits.TheConstants.{OPTIONS, CRITERIA, GROUPS, LEAST_REACH, MOST_REACH, NEW_REACH}
@@ -255,16 +255,12 @@ format_of value = do
 abbrev pub model_keys : List (List ℕ)
 model_keys = codes "macbeth" ∷ codes "criteria" ∷ codes "groups" ∷ codes "options" ∷ codes "weighting" ∷ []
 
--- a model of which nothing was read
-abbrev pub nothing_yet : ModelState
-nothing_yet = record { options = []; criteria = []; groups = []; performances = []; order = []; weighting = unjudged 1 }
-
 unfoldable pub model_of : Data → Result ModelState Place
 model_of d = do
   plain ← object_at place.Whole model_keys d
   grouped ← format_of (get (codes "macbeth") d)
   groups ← groups_in grouped (get (codes "groups") d)
-  after_groups ← each_into group_of 0 nothing_yet groups
+  after_groups ← each_into group_of 0 empty_model groups
   criteria ← array_at place.Criteria (get (codes "criteria") d)
   after_criteria ← each_into (criterion_of grouped) 0 after_groups criteria
   options ← array_or_none place.Options (get (codes "options") d)

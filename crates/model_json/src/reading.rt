@@ -1,8 +1,9 @@
 //! From a JSON value to a model.
 ghost use Rattle.std.specs.Prelude.{◌≡◌, option_map};
 ghost use Rattle.serde_json.specs.View.{view, items_view};
+ghost use Rattle.model_core.specs.State.{empty_model};
 ghost use Rattle.model_json.specs.Steps.{Gives, Reads, each_into};
-ghost use Rattle.model_json.specs.Reading.{if_format, format_of, groups_in, criterion_of, model_of, nothing_yet};
+ghost use Rattle.model_json.specs.Reading.{if_format, format_of, groups_in, criterion_of, model_of};
 
 use crate::criteria::read_criterion;
 use crate::fault::Stop;
@@ -27,7 +28,7 @@ pub(crate) fn read_model(alloc: Global, value: &Value) -> Result<Model, Stop>
 // Adds to an empty model what a value holds.
 #[tactic(auto, unfolding(crate::specs::Reading::model_of))]
 fn read_all(alloc: Global, model: &mut Model, value: &Value) -> Result<(), Stop>
-    requires { model.old ≡ nothing_yet }
+    requires { model.old ≡ empty_model }
     ensures { Reads result (model_of (view value.now)) model.new }
 {
     let keys = ["macbeth", "criteria", "groups", "options", "weighting"];

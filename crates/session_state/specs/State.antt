@@ -2,9 +2,9 @@
 use Rattle.std.specs.Prelude.{◌≡◌, ℕ, ◌-◌, ◌<◌, ◌≤◌, Bool, true, false, List, [], ◌∷◌, ◌++◌, map, length, take, count_by, Option, Some, None, Result, Ok, Err, slice_index_or, slice_set, if◌then◌else◌}
 use Rattle.std.specs.Option.{is_some, option_map, option_and_then}
 use Rattle.circular_buffer.specs.Buffer.{keep_last, last_item}
-use Rattle.judgement_matrix.specs.Matrix.{Judgements, unjudged}
+use Rattle.judgement_matrix.specs.Matrix.{Judgements}
 use Rattle.judgement_matrix.specs.Same.{same_judgements}
-use Rattle.model_core.specs.State.{ModelState, CriterionState}
+use Rattle.model_core.specs.State.{ModelState, CriterionState, empty_model}
 use Rattle.model_core.specs.Finding.{find_criterion, criterion_at}
 use Rattle.value_scale.specs.Basic.{IsBasic}
 use Rattle.value_scale.specs.declared.basic.Basic.{Basic}
@@ -106,10 +106,6 @@ with_results s results = record s { results = results }
 -- no pivot was made and nothing is kept of a model without criteria
 abbrev pub no_results : ResultsState
 no_results = record { kept = []; kept_weighting = None; pivots = 0 }
-
--- a model without options, criteria and groups
-abbrev pub empty_model : ModelState
-empty_model = record { options = []; criteria = []; groups = []; performances = []; order = []; weighting = unjudged 1 }
 
 -- the session at its start
 abbrev pub start_state : SessionState
