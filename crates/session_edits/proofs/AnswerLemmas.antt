@@ -1,9 +1,13 @@
--- What is told of an option that was found.
-use Rattle.std.proofs.Common.{◌≡◌, List, [], ◌∷◌, ℕ, Some, Result, Ok, Err, subst, sym}
+-- What is told of an option that was found, and of the text of a certificate.
+use Rattle.std.proofs.Common.{◌≡◌, List, [], ◌∷◌, ℕ, Some, Result, Ok, Err, refl, subst, sym}
+use Rattle.std.specs.Result.{IfOk}
+use Rattle.judgement_matrix.specs.Matrix.{Judgements}
 use Rattle.model_core.specs.Finding.{find_option}
 use Rattle.report_text.specs.declared.reply.Reply.{Reply}
-use Rattle.session_state.specs.State.{SessionState}
+use Rattle.session_state.specs.State.{SessionState, matrix_of}
+use Rattle.session_state.specs.declared.subject.Subject.{Subject}
 use Rattle.session_edits.specs.Answer.{Replies}
+use Rattle.session_edits.specs.Matrices.{TellsOfText, ReadsCertificate}
 use Rattle.session_edits.specs.Scores.{TellsSubtotals, WhereWeighed, checked_subtotals}
 
 pub found_option : {E : Type 0} (s : SessionState) (name : List ℕ) (o : ℕ) (r : Result Reply E) (new : SessionState) → find_option s.model name ≡ Some o
@@ -13,3 +17,8 @@ found_option s name o r new found h = subst (λ p. Replies (TellsSubtotals s p) 
     told : {E : Type 0} (r : Result Reply E) → Replies (WhereWeighed s (o ∷ []) (checked_subtotals s.model o)) s r new → Replies (TellsSubtotals s (Some o)) s r new
     told (Ok reply) h = h
     told (Err e) h = h
+
+pub told_of_text : {E : Type 0} (s : SessionState) (subject : Subject) (bytes : List ℕ) (m : Judgements) (r : Result Reply E)
+    → m ≡ matrix_of s.model subject → IfOk r (TellsOfText m bytes) → Replies (ReadsCertificate s subject bytes) s r s
+told_of_text s subject bytes m (Ok reply) is told = (subst (λ n. TellsOfText n bytes reply) is told, refl)
+told_of_text s subject bytes m (Err e) is told = refl

@@ -51,12 +51,12 @@ use Rattle.session_state.specs.Taking.{as_found, after_run, Takes, TakesFrom}
 use Rattle.session_state.specs.declared.subject.Subject.{Subject}
 use Rattle.session_edits.specs.Refusals.{refused, number_of, or_too_wide, or_refused, ◌>>=◌}
 use Rattle.session_edits.specs.Subjects.{names_of, criterion_named, weighting_of, matrix_named, all_subjects}
-use Rattle.session_edits.specs.Edits.{edit_of, Shows, Refuses, AnswersEdited, AnswersUndone}
-use Rattle.session_edits.specs.Matrices.{matrix_reply, rows_reply, fit_reply, TellsFit, Fits, TellsOfText, TellsOfBlock, Verifies, verdict_reply, at_places, check_on}
+use Rattle.session_edits.specs.Edits.{edit_of, Shows, Refuses, AnswersEdited, AnswersUndone, OfBlock}
+use Rattle.session_edits.specs.Matrices.{matrix_reply, rows_reply, fit_reply, TellsFit, Fits, TellsOfText, ReadsCertificate, Verifies, verdict_reply, at_places, check_on}
 use Rattle.session_edits.specs.Scales.{Asks, worth_of, told}
 use Rattle.session_edits.specs.Scores.{with_worth, TakesAll, TakesBehind, AsksAll, WherePerformed, WhereWeighed, TellsSubtotals, missing, option_places, checked_scores, checked_subtotals}
 use Rattle.session_edits.specs.Groups.{groups_reply}
-use Rattle.session_edits.specs.Texts.{OfBlock, Loads, AnswersRead, AnswersTable, ReadsTable, dump_reply, judged_table, table_reply, AsTable}
+use Rattle.session_edits.specs.Texts.{ReadsModel, AnswersRead, AnswersTable, ReadsTable, dump_reply, judged_table, table_reply, AsTable}
 use Rattle.std.specs.Ordering.{int_eq}
 use Rattle.session_edits.proofs.WorthLemmas.{both}
 use Rattle.command_read.proofs.ReadValues.{AreReadValues, Keeps}
@@ -203,13 +203,15 @@ of_text m bytes = by_text (every_text_reads_or_is_bad bytes)
         let v = verdict_of m h.0.claim (at_places m h.0) in (verdict_reply v.0, inl (h.0, h.1, (v.0, v.1, refl)))
     by_text (inr h) = (reply.Refused BAD_CERTIFICATE (detail.Line h.0), inr (h.0, h.1, refl))
 
-of_block : (m : Judgements) (block : Held) → (r : Reply) × TellsOfBlock m block r
-of_block m (held.Whole bytes) = of_text m bytes
-of_block m held.Cut = (refused BLOCK_CUT, refl)
-of_block m held.Large = (refused BLOCK_TOO_LARGE, refl)
+of_held : (s : SessionState) (block : Held) (Reads : List ℕ → Reply → SessionState → Type 0)
+    → ((bytes : List ℕ) → Answerable (Reads bytes)) → Answerable (OfBlock s block Reads)
+of_held s (held.Whole bytes) Reads answer = answer bytes
+of_held s held.Cut Reads answer = refuses s BLOCK_CUT
+of_held s held.Large Reads answer = refuses s BLOCK_TOO_LARGE
 
 verifies : (s : SessionState) (block : Held) (subject : Subject) → Answerable (Verifies s block subject)
-verifies s block subject = let h = of_block (matrix_of s.model subject) block in (h.0, s, (h.1, refl))
+verifies s block subject =
+    of_held s block (ReadsCertificate s subject) (λ bytes. let h = of_text (matrix_of s.model subject) bytes in (h.0, s, (h.1, refl)))
 
 -- ---- `fits`
 
@@ -234,12 +236,6 @@ fits s vs read subject =
     (refuses s WRONG_COUNT)
 
 -- ---- texts
-
-of_held : (s : SessionState) (block : Held) (Reads : List ℕ → Reply → SessionState → Type 0)
-    → ((bytes : List ℕ) → Answerable (Reads bytes)) → Answerable (OfBlock s block Reads)
-of_held s (held.Whole bytes) Reads answer = answer bytes
-of_held s held.Cut Reads answer = refuses s BLOCK_CUT
-of_held s held.Large Reads answer = refuses s BLOCK_TOO_LARGE
 
 reads : (s : SessionState) (read : Result ModelState LoadFault) → (read ≡ Err load_fault.NoMemory → ⊥) → Answerable (AnswersRead s read)
 reads s (Ok m) some = (reply.Ok, changed s m, (refl, refl))
@@ -298,7 +294,7 @@ tells s (command.Subtotals name) keeps = subtotals s (find_option s.model name)
 tells s command.Groups keeps = shows s (groups_reply s.model)
 tells s command.Stats keeps = shows s (reply.Stats s.results.pivots (kept_count s.results))
 tells s command.Quit keeps = shows s reply.Ok
-tells s (command.Load a) keeps = of_held s a (Loads s) (λ bytes. reads s (load_of bytes) (load_never_wants_memory bytes))
+tells s (command.Load a) keeps = of_held s a (ReadsModel s) (λ bytes. reads s (load_of bytes) (load_never_wants_memory bytes))
 tells s (command.Option a) keeps = refuses s UNKNOWN_COMMAND
 tells s (command.DropOption a) keeps = refuses s UNKNOWN_COMMAND
 tells s (command.Criterion a b) keeps = refuses s UNKNOWN_COMMAND

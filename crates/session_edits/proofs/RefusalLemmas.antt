@@ -23,11 +23,11 @@ use Rattle.report_text.specs.declared.reply.Reply.TheVariants as reply
 use Rattle.session_state.specs.State.{ResultsState, SessionState, matrix_of, undone, with_results}
 use Rattle.session_state.specs.declared.subject.Subject.{Subject}
 use Rattle.session_edits.specs.Subjects.{criterion_named, weighting_of, matrix_named}
-use Rattle.session_edits.specs.Edits.{edit_of, Shows, Refuses, AnswersEdited, AnswersUndone}
-use Rattle.session_edits.specs.Matrices.{TellsFit, Fits}
+use Rattle.session_edits.specs.Edits.{edit_of, Shows, Refuses, OfBlock, AnswersEdited, AnswersUndone}
+use Rattle.session_edits.specs.Matrices.{TellsFit, Fits, ReadsCertificate}
 use Rattle.session_edits.specs.Scales.{Asks}
 use Rattle.session_edits.specs.Scores.{AsksAll, WherePerformed, WhereWeighed, TellsScores, TellsSubtotals, missing, option_places, checked_scores, checked_subtotals}
-use Rattle.session_edits.specs.Texts.{OfBlock, Loads, AnswersRead, AnswersTable, ReadsTable}
+use Rattle.session_edits.specs.Texts.{ReadsModel, AnswersRead, AnswersTable, ReadsTable}
 use Rattle.session_edits.specs.Answer.{Of, OfElement, element_named, AsksSlack, Tells, AnswersBy, Answer}
 use Rattle.session_edits.specs.declared.refusal.TheConstants.{UNKNOWN_COMMAND, UNKNOWN_CRITERION, PERFORMANCE_MISSING, WRONG_COUNT}
 use Rattle.session_edits.specs.declared.question.Question.{Question}
@@ -127,7 +127,8 @@ module _ (s next : SessionState) (number : ℕ) (detail : Detail) where
   tells (command.Matrix name) h = of_subject s (matrix_named s.model name) _ r next (λ subject k. same s next k.1) h
   tells (command.Rows name) h = of_subject s (matrix_named s.model name) _ r next (λ subject k. same s next k.1) h
   tells (command.Fits name vs) h = of_subject s (matrix_named s.model name) _ r next (λ subject. fit s vs subject r next) h
-  tells (command.Verify name block) h = of_subject s (matrix_named s.model name) _ r next (λ subject k. same s next k.1) h
+  tells (command.Verify name block) h =
+      of_subject s (matrix_named s.model name) _ r next (λ subject. of_block block (ReadsCertificate s subject) (λ bytes k. same s next k.1)) h
   tells (command.Scale name) h = of_subject s (criterion_named s.model name) _ r next (λ subject. asked s question.Scale subject r next) h
   tells (command.Cert name) h = of_subject s (criterion_named s.model name) _ r next (λ subject. asked s question.Cert subject r next) h
   tells (command.Anchored name) h = of_subject s (criterion_named s.model name) _ r next (λ subject. asked s question.Worth subject r next) h
@@ -139,7 +140,7 @@ module _ (s next : SessionState) (number : ℕ) (detail : Detail) where
   tells command.Groups h = same s next h.1
   tells command.Stats h = same s next h.1
   tells command.Quit h = same s next h.1
-  tells (command.Load a) h = of_block a (Loads s) (λ bytes. reads (load_of bytes)) h
+  tells (command.Load a) h = of_block a (ReadsModel s) (λ bytes. reads (load_of bytes)) h
   tells (command.Option a) h = same s next h.1
   tells (command.DropOption a) h = same s next h.1
   tells (command.Criterion a b) h = same s next h.1

@@ -1,4 +1,4 @@
--- The size of a matrix by its name, and results before a query.
+-- The size of a matrix by its name.
 use Rattle.std.proofs.Common.{◌≡◌, ℕ, ◌+◌, Bool, true, false, cond, List, [], ◌∷◌, length, Option, Some, None, Ok, refl, ap, ◌∙◌, arith, codes}
 use Rattle.std.specs.Prelude.{nat_lt}
 use Rattle.std.specs.Option.{option_map}
@@ -8,11 +8,9 @@ use Rattle.judgement_matrix.specs.Matrix.{Judgements}
 use Rattle.model_core.specs.State.{ModelState}
 use Rattle.model_core.specs.Finding.{find_criterion, criterion_at, matrix_size}
 use Rattle.table_csv.specs.Table.{Imports}
-use Rattle.session_state.specs.State.{SessionState, with_results}
 use Rattle.session_state.specs.declared.subject.Subject.{Subject}
 use Rattle.session_state.specs.declared.subject.Subject.TheVariants.{Criterion, Weighting}
 use Rattle.session_edits.specs.Subjects.{matrix_named, names_of, weighed_names}
-use Rattle.session_edits.proofs.RefusalLemmas.{Keeps}
 
 -- the names of a weighting
 weighed_count : (m : ModelState) → length m.order ≡ length m.criteria → length m.criteria + 1 ≡ length (names_of m Weighting)
@@ -43,7 +41,3 @@ size_named m name subject named each = by_name (bytes_eq name (codes "weighting"
 -- a matrix that was imported has an element for each name
 pub imported_size : (names : List (List ℕ)) (bytes : List ℕ) (m : Judgements) → Imports names bytes (Ok m) → m.size ≡ length names
 imported_size names bytes m (records, are, is) = ap (λ (n : Judgements). n.size) is.1
-
--- a query that keeps model and history, and then the results before it
-pub as_before : (s mid next : SessionState) → Keeps s mid → next ≡ with_results mid s.results → next ≡ s
-as_before s mid next keeps e = e ∙ (λ i. record { model = keeps.model i; history = keeps.history i; results = s.results })

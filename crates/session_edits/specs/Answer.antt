@@ -11,12 +11,12 @@ use Rattle.session_state.specs.State.{SessionState, kept_count}
 use Rattle.session_state.specs.declared.subject.Subject.{Subject}
 use Rattle.session_state.specs.declared.subject.Subject.TheVariants.{Criterion, Weighting}
 use Rattle.session_edits.specs.Subjects.{criterion_named, weighting_of, matrix_named}
-use Rattle.session_edits.specs.Edits.{edit_of, Shows, Refuses, AnswersEdit, AnswersUndo}
+use Rattle.session_edits.specs.Edits.{edit_of, Shows, Refuses, OfBlock, AnswersEdit, AnswersUndo}
 use Rattle.session_edits.specs.Matrices.{matrix_reply, rows_reply, Fits, Verifies}
 use Rattle.session_edits.specs.Scales.{Asks}
 use Rattle.session_edits.specs.Scores.{TellsScores, TellsSubtotals}
 use Rattle.session_edits.specs.Groups.{groups_reply}
-use Rattle.session_edits.specs.Texts.{OfBlock, Loads, dump_reply, ImportsInto, judged_table, AsTable}
+use Rattle.session_edits.specs.Texts.{ReadsModel, dump_reply, ImportsInto, judged_table, AsTable}
 use Rattle.session_edits.specs.declared.question.Question.TheVariants as question
 use Rattle.session_edits.specs.declared.refusal.TheConstants.{UNKNOWN_COMMAND, UNKNOWN_CRITERION, UNKNOWN_ELEMENT}
 
@@ -60,7 +60,7 @@ Tells s (command.Subtotals name) r next = TellsSubtotals s (find_option s.model 
 Tells s command.Groups r next = Shows s (groups_reply s.model) r next
 Tells s command.Stats r next = Shows s (reply.Stats s.results.pivots (kept_count s.results)) r next
 Tells s command.Quit r next = Shows s reply.Ok r next
-Tells s (command.Load block) r next = OfBlock s block (Loads s) r next
+Tells s (command.Load block) r next = OfBlock s block (ReadsModel s) r next
 Tells s command.Dump r next = Shows s (dump_reply s.model) r next
 Tells s (command.Import name block) r next = Of s (matrix_named s.model name) (ImportsInto s name block) r next
 Tells s (command.ExportMatrix name) r next =

@@ -1,5 +1,7 @@
--- The commands that change the model.
-use Rattle.std.specs.Prelude.{◌≡◌, ℕ, Option, Some, None, Result, Ok, Err}
+-- The commands that change the model, and what they share with others: a reply that changes nothing, a block's bytes.
+use Rattle.std.specs.Prelude.{◌≡◌, ℕ, List, Option, Some, None, Result, Ok, Err}
+use Rattle.command_read.specs.declared.block.Held.{Held}
+use Rattle.command_read.specs.declared.block.Held.TheVariants as held
 use Rattle.command_read.specs.declared.command.Command.{Command}
 use Rattle.command_read.specs.declared.command.Command.TheVariants as command
 use Rattle.model_core.specs.State.{ModelState}
@@ -9,7 +11,7 @@ use Rattle.report_text.specs.declared.reply.Reply.{Reply}
 use Rattle.report_text.specs.declared.reply.Reply.TheVariants as reply
 use Rattle.session_state.specs.State.{SessionState, changed, undone}
 use Rattle.session_edits.specs.Refusals.{refused, number_of}
-use Rattle.session_edits.specs.declared.refusal.TheConstants.{NOTHING_TO_UNDO}
+use Rattle.session_edits.specs.declared.refusal.TheConstants.{NOTHING_TO_UNDO, BLOCK_CUT, BLOCK_TOO_LARGE}
 
 -- the edit that a command asks for
 abbrev pub edit_of : Command → Option Edit
@@ -43,6 +45,12 @@ Shows s shown r next = (r ≡ shown) × (next ≡ s)
 -- the reply is this refusal, and nothing changes
 abbrev pub Refuses : SessionState → ℕ → Reply → SessionState → Type 0
 Refuses s number r next = Shows s (refused number) r next
+
+-- a block that isn't whole is refused; else its bytes are read
+abbrev pub OfBlock : SessionState → Held → (List ℕ → Reply → SessionState → Type 0) → Reply → SessionState → Type 0
+OfBlock s (held.Whole bytes) Reads r next = Reads bytes r next
+OfBlock s held.Cut Reads r next = Refuses s BLOCK_CUT r next
+OfBlock s held.Large Reads r next = Refuses s BLOCK_TOO_LARGE r next
 
 -- the reply is `ok`, and this is the next state
 abbrev pub Accepts : SessionState → Reply → SessionState → Type 0

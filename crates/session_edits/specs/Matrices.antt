@@ -22,7 +22,6 @@ use Rattle.cert_check.specs.declared.text.Claim.TheVariants.{Least, Nothing}
 use Rattle.cert_check.specs.declared.verdict.Verdict.{Verdict}
 use Rattle.cert_check.specs.declared.verdict.Verdict.TheVariants.{Holds, Fails}
 use Rattle.command_read.specs.declared.block.Held.{Held}
-use Rattle.command_read.specs.declared.block.Held.TheVariants as held
 use Rattle.model_core.specs.State.{ModelState}
 use Rattle.model_json.specs.Writing.{judged_pairs}
 use Rattle.report_text.specs.declared.reply.Detail.TheVariants as detail
@@ -32,8 +31,8 @@ use Rattle.session_state.specs.State.{SessionState, matrix_of}
 use Rattle.session_state.specs.declared.subject.Subject.{Subject}
 use Rattle.session_edits.specs.Refusals.{refused}
 use Rattle.session_edits.specs.Subjects.{names_of}
-use Rattle.session_edits.specs.Edits.{Refuses}
-use Rattle.session_edits.specs.declared.refusal.TheConstants.{WRONG_COUNT, BLOCK_CUT, BLOCK_TOO_LARGE, BAD_CERTIFICATE, TOO_WIDE}
+use Rattle.session_edits.specs.Edits.{Refuses, OfBlock}
+use Rattle.session_edits.specs.declared.refusal.TheConstants.{WRONG_COUNT, BAD_CERTIFICATE, TOO_WIDE}
 
 -- ---- `matrix` and `rows`
 
@@ -115,11 +114,8 @@ TellsOfText m bytes r =
     ((cert : CertText) × IsTextOf bytes cert × TellsVerdict m cert r)
     ⊎ ((line : ℕ) × IsFirstBad bytes line × (r ≡ reply.Refused BAD_CERTIFICATE (detail.Line line)))
 
--- what is told of a block
-abbrev pub TellsOfBlock : Judgements → Held → Reply → Type 0
-TellsOfBlock m (held.Whole bytes) r = TellsOfText m bytes r
-TellsOfBlock m held.Cut r = r ≡ refused BLOCK_CUT
-TellsOfBlock m held.Large r = r ≡ refused BLOCK_TOO_LARGE
+abbrev pub ReadsCertificate : SessionState → Subject → List ℕ → Reply → SessionState → Type 0
+ReadsCertificate s subject bytes r next = TellsOfText (matrix_of s.model subject) bytes r × (next ≡ s)
 
 abbrev pub Verifies : SessionState → Held → Subject → Reply → SessionState → Type 0
-Verifies s block subject r next = TellsOfBlock (matrix_of s.model subject) block r × (next ≡ s)
+Verifies s block subject r next = OfBlock s block (ReadsCertificate s subject) r next

@@ -14,21 +14,14 @@ use Rattle.table_csv.specs.Layout.{matrix_table, value_table}
 use Rattle.table_csv.specs.declared.fault.TableFault.{TableFault}
 use Rattle.table_csv.specs.declared.fault.TableFault.TheVariants as table_fault
 use Rattle.command_read.specs.declared.block.Held.{Held}
-use Rattle.command_read.specs.declared.block.Held.TheVariants as held
 use Rattle.report_text.specs.declared.reply.Detail.TheVariants as detail
 use Rattle.report_text.specs.declared.reply.Reply.{Reply}
 use Rattle.report_text.specs.declared.reply.Reply.TheVariants as reply
 use Rattle.session_state.specs.State.{SessionState, matrix_of, changed}
 use Rattle.session_state.specs.declared.subject.Subject.{Subject}
 use Rattle.session_edits.specs.Subjects.{names_of}
-use Rattle.session_edits.specs.Edits.{Shows, Refuses, Accepts, AnswersEdit}
-use Rattle.session_edits.specs.declared.refusal.TheConstants.{BLOCK_CUT, BLOCK_TOO_LARGE, BAD_JSON, BAD_MODEL}
-
--- a block that isn't whole is refused; else its bytes are read
-abbrev pub OfBlock : SessionState → Held → (List ℕ → Reply → SessionState → Type 0) → Reply → SessionState → Type 0
-OfBlock s (held.Whole bytes) Reads r next = Reads bytes r next
-OfBlock s held.Cut Reads r next = Refuses s BLOCK_CUT r next
-OfBlock s held.Large Reads r next = Refuses s BLOCK_TOO_LARGE r next
+use Rattle.session_edits.specs.Edits.{Shows, Refuses, Accepts, AnswersEdit, OfBlock}
+use Rattle.session_edits.specs.declared.refusal.TheConstants.{BAD_JSON, BAD_MODEL}
 
 -- ---- `load` and `dump`
 
@@ -40,8 +33,8 @@ AnswersRead s (Err (load_fault.BadModel pointer)) r next = Shows s (reply.Refuse
 -- no text gives this
 AnswersRead s (Err load_fault.NoMemory) r next = ⊥
 
-abbrev pub Loads : SessionState → List ℕ → Reply → SessionState → Type 0
-Loads s bytes r next = AnswersRead s (load_of bytes) r next
+abbrev pub ReadsModel : SessionState → List ℕ → Reply → SessionState → Type 0
+ReadsModel s bytes r next = AnswersRead s (load_of bytes) r next
 
 -- what stands between the newlines of a text
 abbrev pub lines_between : List ℕ → List (List ℕ)

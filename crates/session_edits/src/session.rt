@@ -6,6 +6,7 @@ ghost use Rattle.session_state.specs.State.{kept_of, kept_count, start_state};
 ghost use Rattle.session_state.specs.Taking.{IsSubject};
 ghost use Rattle.session_edits.specs.Answer.{Answer, Replies, Of, AsksSlack, element_named};
 ghost use Rattle.model_core.specs.Finding.{criterion_at};
+ghost use Rattle.session_edits.specs.Matrices.{ReadsCertificate};
 ghost use Rattle.session_edits.specs.Scales.{Asks, IsQuestionOf};
 ghost use Rattle.session_edits.specs.Subjects.{criterion_named, weighting_of, matrix_named};
 
@@ -13,9 +14,12 @@ use crate::NoMemory;
 use crate::groups::groups_reply;
 use crate::matrices::{fit_reply, matrix_reply, rows_reply};
 use crate::question::Question;
-use crate::refusal::{UNKNOWN_COMMAND, UNKNOWN_CRITERION, UNKNOWN_ELEMENT, WRONG_COUNT, refused};
+use crate::refusal::{
+    BLOCK_CUT, BLOCK_TOO_LARGE, UNKNOWN_COMMAND, UNKNOWN_CRITERION, UNKNOWN_ELEMENT, WRONG_COUNT,
+    refused,
+};
 use crate::texts::{dump_reply, judged_table};
-use crate::verify::block_reply;
+use crate::verify::text_reply;
 use command_read::{Command, Held, is_done_later};
 use frac128::Frac;
 use model_core::laws::what_a_criterion_keeps;
@@ -218,10 +222,24 @@ impl Session {
             self.now result self.now }
         ensures printable { IfOk result IsPrintable }
     {
-        match self.matrix_named(name) {
-            Some(subject) => block_reply(self.alloc, subject.matrix(self.model()), block),
-            None => Ok(refused(UNKNOWN_CRITERION)),
+        let Some(subject) = self.matrix_named(name) else {
+            return Ok(refused(UNKNOWN_CRITERION));
+        };
+        match block {
+            Held::Whole(bytes) => self.verify_text(subject, bytes.as_slice()),
+            Held::Cut => Ok(refused(BLOCK_CUT)),
+            Held::Large => Ok(refused(BLOCK_TOO_LARGE)),
         }
+    }
+
+    // The same of its text.
+    fn verify_text(&self, subject: Subject, bytes: &[u8]) -> Result<Reply, NoMemory>
+        requires { IsSubject self.now.model subject }
+        ensures answer { Replies (ReadsCertificate self.now subject bytes.now)
+            self.now result self.now }
+        ensures printable { IfOk result IsPrintable }
+    {
+        text_reply(self.alloc, subject.matrix(self.model()), bytes)
     }
 
     /// A question about a matrix, where there is that matrix.

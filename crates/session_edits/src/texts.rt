@@ -8,11 +8,11 @@ ghost use Rattle.table_csv.specs.Lines.{rows, is_line};
 ghost use Rattle.session_state.specs.State.{AreResults, with_results};
 ghost use Rattle.session_state.specs.Taking.{IsSubject};
 ghost use Rattle.session_edits.specs.Answer.{Replies, Of};
-ghost use Rattle.session_edits.specs.Edits.{AnswersEdit};
+ghost use Rattle.session_edits.specs.Edits.{AnswersEdit, OfBlock};
 ghost use Rattle.session_edits.specs.Scales.{Asks};
 ghost use Rattle.session_edits.specs.Scores.{TellsScores};
 ghost use Rattle.session_edits.specs.Subjects.{matrix_named};
-ghost use Rattle.session_edits.specs.Texts.{OfBlock, Loads, ReadsTable, ImportsInto, dump_reply, lines_between, csv_reply, judged_table, table_reply, AsTable};
+ghost use Rattle.session_edits.specs.Texts.{ReadsModel, ReadsTable, ImportsInto, dump_reply, lines_between, csv_reply, judged_table, table_reply, AsTable};
 
 use crate::NoMemory;
 use crate::names::names_of;
@@ -35,7 +35,7 @@ use table_csv::{TableFault, export, import_matrix, matrix_table, text_from, valu
 impl Session {
     /// Goes on to the model that the text of a block is.
     pub(crate) fn load(&mut self, block: &Held) -> Result<Reply, NoMemory>
-        ensures answer { Replies (OfBlock self.old block.now (Loads self.old))
+        ensures answer { Replies (OfBlock self.old block.now (ReadsModel self.old))
             self.old result self.new }
         ensures printable { IfOk result IsPrintable }
     {
@@ -48,7 +48,7 @@ impl Session {
 
     // The same of a text.
     fn load_text(&mut self, bytes: &[u8]) -> Result<Reply, NoMemory>
-        ensures answer { Replies (Loads self.old bytes.now) self.old result self.new }
+        ensures answer { Replies (ReadsModel self.old bytes.now) self.old result self.new }
         ensures printable { IfOk result IsPrintable }
     {
         match load(self.alloc, bytes) {

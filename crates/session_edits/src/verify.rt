@@ -2,12 +2,11 @@
 ghost use Rattle.std.specs.Prelude.{◌≡◌, ◌≤◌, IfOk, map, position};
 ghost use Rattle.cert_check.specs.Lines.{IsVerdict};
 ghost use Rattle.report_text.specs.Reply.{IsPrintable};
-ghost use Rattle.session_edits.specs.Matrices.{TellsOfBlock, TellsOfText, at_place, at_places, check_of, check_on, is_same_tag, verdict_reply};
+ghost use Rattle.session_edits.specs.Matrices.{TellsOfText, at_place, at_places, check_of, check_on, is_same_tag, verdict_reply};
 
 use crate::NoMemory;
-use crate::refusal::{BAD_CERTIFICATE, BLOCK_CUT, BLOCK_TOO_LARGE, TOO_WIDE, refused};
+use crate::refusal::{BAD_CERTIFICATE, TOO_WIDE, refused};
 use cert_check::{CertFault, CertText, Claim, Verdict, check_dual, check_farkas, read_cert};
-use command_read::Held;
 use frac128::problem::{Cert, Problem};
 use frac128::{List, TooWide};
 use judgement_matrix::{Matrix, Tag};
@@ -15,21 +14,8 @@ use lp_macbeth::{judged_tags, problem};
 use report_text::{Detail, Reply};
 use std::alloc::Global;
 
-/// What a block with the text of a certificate says of a matrix.
-pub(crate) fn block_reply(alloc: Global, matrix: &Matrix, block: &Held) -> Result<Reply, NoMemory>
-    requires { 2 ≤ matrix.now.size }
-    ensures value { IfOk result (TellsOfBlock matrix.now block.now) }
-    ensures printable { IfOk result IsPrintable }
-{
-    match block {
-        Held::Whole(bytes) => text_reply(alloc, matrix, bytes.as_slice()),
-        Held::Cut => Ok(refused(BLOCK_CUT)),
-        Held::Large => Ok(refused(BLOCK_TOO_LARGE)),
-    }
-}
-
-// The same of the text.
-fn text_reply(alloc: Global, matrix: &Matrix, bytes: &[u8]) -> Result<Reply, NoMemory>
+/// What the text of a certificate says of a matrix.
+pub(crate) fn text_reply(alloc: Global, matrix: &Matrix, bytes: &[u8]) -> Result<Reply, NoMemory>
     requires { 2 ≤ matrix.now.size }
     ensures value { IfOk result (TellsOfText matrix.now bytes.now) }
     ensures printable { IfOk result IsPrintable }
