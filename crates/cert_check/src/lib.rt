@@ -20,12 +20,3 @@ pub use printing::{print_cert, read_printed};
 pub use reading::read_cert;
 pub use text::{CertFault, CertText, Claim};
 pub use verdict::{Place, Verdict};
-
-#[cfg(test)]
-mod check_tests;
-#[cfg(test)]
-mod placing_tests;
-#[cfg(test)]
-mod text_tests;
-#[cfg(test)]
-mod translate_tests;

@@ -22,6 +22,3 @@ pub use word::split_word;
 
 /// Why a call that takes memory gave none of its other answers.
 pub use std::alloc::AllocError as NoMemory;
-
-#[cfg(test)]
-mod tests;

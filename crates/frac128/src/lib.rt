@@ -10,10 +10,6 @@ mod order;
 mod printing;
 pub mod problem;
 mod reading;
-#[cfg(test)]
-mod tests;
-#[cfg(test)]
-mod text_tests;
 
 pub use decimals::MOST_PLACES;
 pub use frac::Frac;

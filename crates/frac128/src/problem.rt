@@ -159,6 +159,3 @@ pub fn writing_does_not_count(problem: &Problem)
         → pos 0 <ℤ m → SameFractions (over x n) (over y m)
         → IsLeast problem.now x n → IsLeast problem.now y m }
 {}
-
-#[cfg(test)]
-mod tests;

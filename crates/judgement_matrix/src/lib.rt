@@ -14,6 +14,3 @@ pub use pairs::Pairs;
 pub use range::Range;
 pub use shift::Shift;
 pub use tag::{Fit, Tag};
-
-#[cfg(test)]
-mod tests;

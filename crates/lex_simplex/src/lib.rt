@@ -24,6 +24,3 @@ pub use end::{End, PivotFault};
 pub use outcome::Outcome;
 pub use solver::{SolveFault, solve};
 pub use table::Table;
-
-#[cfg(test)]
-mod tests;

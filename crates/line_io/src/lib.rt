@@ -18,6 +18,3 @@ pub use outside::{Failed, Sink, Source};
 pub use put::{PutFault, put_all};
 pub use standard::{StdSink, StdSource};
 pub use std::alloc::AllocError as NoMemory;
-
-#[cfg(test)]
-mod tests;

@@ -25,8 +25,3 @@ pub use threshold::threshold_problem;
 pub use threshold_tags::ThresholdTag;
 pub use translation::translate;
 pub use weighting::{ClosedWeighting, WeightingFault, closed_weighting};
-
-#[cfg(test)]
-mod tests;
-#[cfg(test)]
-mod weighting_tests;

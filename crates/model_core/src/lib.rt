@@ -23,12 +23,3 @@ pub use limits::{CRITERIA, GROUPS, LEAST_REACH, MOST_REACH, NAME_BYTES, NEW_REAC
 pub use model::Model;
 pub use name::{Name, NoMemory, is_reserved, valid_name};
 pub use text::{Pointer, Text};
-
-#[cfg(test)]
-mod edit_tests;
-#[cfg(test)]
-mod limit_tests;
-#[cfg(test)]
-mod script;
-#[cfg(test)]
-mod word_tests;

@@ -22,7 +22,3 @@ pub use fault::LoadFault;
 pub use loading::load;
 pub use writing::{DUMP_LINE, dump};
 
-#[cfg(test)]
-mod dump_tests;
-#[cfg(test)]
-mod load_tests;

@@ -16,6 +16,3 @@ pub use reply::{Detail, Head, OpenTag, Part, Reply};
 
 /// Why a call that takes memory gave none of its other answers.
 pub use std::alloc::AllocError as NoMemory;
-
-#[cfg(test)]
-mod tests;

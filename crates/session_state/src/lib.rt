@@ -13,6 +13,3 @@ pub use results::Results;
 pub use shared::Shared;
 pub use state::State;
 pub use subject::Subject;
-
-#[cfg(test)]
-mod tests;

@@ -7,6 +7,3 @@ mod weighing;
 
 pub use scores::score;
 pub use weighing::{WeightFault, weights};
-
-#[cfg(test)]
-mod tests;

@@ -18,6 +18,3 @@ pub use values::{PLACES, value_table};
 
 /// Why a call that takes memory gave none of its other answers.
 pub use std::alloc::AllocError as NoMemory;
-
-#[cfg(test)]
-mod tests;

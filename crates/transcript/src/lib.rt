@@ -20,6 +20,3 @@ pub use run::{run_entries, run_from};
 pub use service::{Answered, Service};
 pub use status::Status;
 pub use std::alloc::AllocError as NoMemory;
-
-#[cfg(test)]
-mod tests;

@@ -3,14 +3,10 @@
 
 mod anchored_scale;
 mod basic;
-#[cfg(test)]
-mod basic_tests;
 mod fault;
 mod gap_sums;
 pub mod laws;
 mod slacks;
-#[cfg(test)]
-mod tests;
 
 pub use anchored_scale::{AnchorFault, anchor};
 pub use basic::{Basic, basic_of_outcome, basic_scale};

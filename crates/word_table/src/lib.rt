@@ -6,6 +6,3 @@ mod words;
 
 pub use tables::{CATEGORIES, COMMANDS, REFUSALS, categories, commands, refusals};
 pub use words::Words;
-
-#[cfg(test)]
-mod tests;
