@@ -30,6 +30,8 @@ fn run_process(rt: &HostRuntime) -> Status {
 }
 
 #[cfg(test)]
+mod edit_tests;
+#[cfg(test)]
 mod fault_tests;
 #[cfg(test)]
 mod limit_tests;

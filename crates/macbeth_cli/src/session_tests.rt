@@ -12,7 +12,7 @@ struct Row {
 }
 
 /// Sessions behind the judged criterion.
-const JUDGED: [Row; 26] = [
+const JUDGED: [Row; 27] = [
     Row {
         name: "fits meets",
         input: "fits c 5 2 0\n",
@@ -99,6 +99,11 @@ const JUDGED: [Row; 26] = [
         name: "rows and matrix",
         input: "rows c\nmatrix c\n",
         output: "rows 8\nlower \"A\" \"B\" 3\nlower \"A\" \"C\" 4\nlower \"B\" \"C\" 2\ncross \"A\" \"B\" over \"B\" \"C\" 1\ncross \"A\" \"C\" over \"A\" \"B\" 1\ncross \"A\" \"C\" over \"B\" \"C\" 2\norder \"A\" 0\norder \"B\" 0\nmatrix 3 3\n\"A\"\n\"B\"\n\"C\"\n\"A\" \"B\" moderate\n\"A\" \"C\" strong\n\"B\" \"C\" weak\n",
+    },
+    Row {
+        name: "ranges",
+        input: "judge c A C 0..6\njudge c A B positive\nmatrix c\n",
+        output: "ok\nok\nmatrix 3 3\n\"A\"\n\"B\"\n\"C\"\n\"A\" \"B\" very-weak..extreme\n\"A\" \"C\" no..extreme\n\"B\" \"C\" weak\n",
     },
     Row {
         name: "anchored and slack",

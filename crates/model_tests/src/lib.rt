@@ -3,14 +3,8 @@
 #![tactic(auto)]
 
 #[cfg(test)]
-mod edits;
-#[cfg(test)]
 mod histories;
 #[cfg(test)]
-mod limits;
-#[cfg(test)]
 mod names;
-#[cfg(test)]
-mod script;
 #[cfg(test)]
 mod words;
