@@ -1,7 +1,8 @@
 -- Entries by tags and by positions, one by one.
-use Rattle.std.proofs.Common.{◌≡◌, ℕ, zero, suc, ◌<◌, length, List, [], ◌∷◌, ◌++◌, ℤ, sym, ap, ap₂, ◌∙◌, arith}
+use Rattle.std.proofs.Common.{◌≡◌, ℕ, zero, suc, ◌<◌, length, get_or, map, List, [], ◌∷◌, ◌++◌, ℤ, pos, All, sym, ap, ap₂, subst, ◌∙◌, arith}
 use Rattle.std.specs.Prelude.{Option, Some, None, slice_get, slice_index_or, Contains}
-use Rattle.std.proofs.lemmas.List.{map-append}
+use Rattle.std.proofs.lemmas.List.{map-append, length-map, get_or-map}
+use Rattle.std.proofs.lemmas.Simd.{map-map}
 use Rattle.std.proofs.lemmas.Option.{get_or_from_slice_get, slice_get_within}
 use Rattle.judgement_matrix.specs.Matrix.{Judgements}
 use Rattle.judgement_matrix.specs.declared.tag.Tag.{Tag}
@@ -45,3 +46,29 @@ on_row m (t ∷ named) (p ∷ placed) h (suc k) d below = on_row m named placed 
 
 pub AreRows-named : (m : Judgements) (named : List (Tag × ℤ)) (placed : List (ℕ × ℤ)) → AreNamed m named placed → AreRows m placed
 AreRows-named m named placed h = on_row m named placed h
+
+-- ---- the tags of entries
+
+-- their positions are those of rows
+pub All-positions : (m : Judgements) (placed : List (ℕ × ℤ)) (positions : List ℕ) → positions ≡ map (λ (e : ℕ × ℤ). e.0) placed → AreRows m placed
+    → All (λ i. i < length (judged_rows m)) positions
+All-positions m placed positions are h k d below =
+    let inside : k < length placed = omega (arith, ap length are, length-map placed (λ (e : ℕ × ℤ). e.0)) in
+    subst (λ i. i < length (judged_rows m))
+    (sym (ap (λ l. get_or l k d) are ∙ get_or-map (λ (e : ℕ × ℤ). e.0) placed k (0, pos 0) d inside)) (h k (0, pos 0) inside)
+
+-- the rows at their positions
+pub rows_at : (rows : List Tag) (placed : List (ℕ × ℤ)) (positions : List ℕ) → positions ≡ map (λ (e : ℕ × ℤ). e.0) placed
+    → map (slice_get rows) positions ≡ map (λ (e : ℕ × ℤ). slice_get rows e.0) placed
+rows_at rows placed positions are = ap (map (slice_get rows)) are ∙ map-map (slice_get rows) (λ (e : ℕ × ℤ). e.0) placed
+
+-- the tag of one
+pub tag_of_entry : (m : Judgements) (tags : List Tag) (placed : List (ℕ × ℤ)) (i : ℕ) (d : Tag)
+    → map Some tags ≡ map (λ (e : ℕ × ℤ). slice_get (judged_rows m) e.0) placed → i < length placed
+    → slice_get (judged_rows m) (get_or placed i (0, pos 0)).0 ≡ Some (get_or tags i d)
+tag_of_entry m tags placed i d is inside =
+    let many : length tags ≡ length placed =
+    sym (length-map tags (λ tag. Some tag)) ∙ ap length is ∙ length-map placed (λ (e : ℕ × ℤ). slice_get (judged_rows m) e.0) in
+    let here : i < length tags = omega arith in
+    sym (get_or-map (λ (e : ℕ × ℤ). slice_get (judged_rows m) e.0) placed i (0, pos 0) None inside)
+    ∙ ap (λ l. get_or l i None) (sym is) ∙ get_or-map (λ tag. Some tag) tags i d None here

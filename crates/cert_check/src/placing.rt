@@ -1,13 +1,14 @@
 //! Certificates by tags and by positions of rows.
 
-ghost use Rattle.std.specs.Prelude.{◌≡◌, ◌↔◌, ◌≤◌, ◌<◌, IsTrue, length, IfOk, MatchOption, Contains, slice_get, Some};
+ghost use Rattle.std.specs.Prelude.{◌≡◌, ◌↔◌, ◌≤◌, IsTrue, map, IfOk, MatchOption, Contains, slice_get, Some};
+ghost use Rattle.lp_macbeth.specs.Rows.{judged_rows};
 ghost use Rattle.cert_check.specs.Rows.{IsNamed, IsPlaced, AreRows, HasRows};
 
 use crate::text::{CertText, Claim};
 use frac128::problem::Cert;
 use frac128::{List, NoMemory};
 use judgement_matrix::{Matrix, Tag};
-use lp_macbeth::judged_tags;
+use lp_macbeth::{judged_tags, tags_at};
 use std::alloc::Global;
 
 /// A certificate of the problem of a matrix, as far as it names rows of it.
@@ -53,11 +54,11 @@ pub fn name_rows(
     ensures named { IfOk result (λ text. IsNamed matrix.now text cert.now) }
     ensures claim { IfOk result (λ text. text.claim ≡ claim) }
 {
-    let tags = judged_tags(alloc, matrix)?;
-    let mut on = Vec::new(alloc);
     let entries = cert.on.as_slice();
+    let tags = tags_of(alloc, matrix, entries)?;
+    let mut on = Vec::new(alloc);
     for i in 0..entries.len() {
-        on.push(named_entry(tags.as_slice(), &entries[i]))?;
+        on.push(named_entry(tags[i], &entries[i]))?;
     }
     Ok(CertText {
         claim,
@@ -66,13 +67,25 @@ pub fn name_rows(
     })
 }
 
+// The tag of each entry's row.
+fn tags_of(alloc: Global, matrix: &Matrix, entries: &[(usize, i128)]) -> Result<Vec<Tag>, NoMemory>
+    requires { AreRows matrix.now entries.now }
+    ensures { IfOk result (λ tags. map Some tags.items
+        ≡ map (λ e. slice_get (judged_rows matrix.now) e.0) entries.now) }
+{
+    let mut positions = Vec::new(alloc);
+    for entry in entries {
+        positions.push(entry.0)?;
+    }
+    tags_at(alloc, matrix, positions.as_slice())
+}
+
 // The entry with the tag of its row.
-fn named_entry(tags: &[Tag], entry: &(usize, i128)) -> (Tag, i128)
-    requires { entry.now.0 < length tags.now }
-    ensures tag { slice_get tags.now entry.now.0 ≡ Some result.0 }
+fn named_entry(tag: Tag, entry: &(usize, i128)) -> (Tag, i128)
+    ensures tag { result.0 ≡ tag }
     ensures multiplier { result.1 ≡ entry.now.1 }
 {
-    (tags[entry.0], entry.1)
+    (tag, entry.1)
 }
 
 // The entry with the position of its row, where its tag is that of one.

@@ -3,6 +3,7 @@ pub mod OrderLemmas
 pub mod CoefLemmas
 pub mod PairLemmas
 pub mod TagLemmas
+pub mod RowTagLemmas
 pub mod RangeLemmas
 pub mod ScaleLemmas
 pub mod LeastLemmas

@@ -6,3 +6,4 @@ pub mod Closed
 pub mod Passing
 pub mod Translated
 pub mod ClosedWeighting
+pub mod RowTags

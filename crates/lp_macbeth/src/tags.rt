@@ -48,9 +48,13 @@ pub(crate) fn closed_tags(alloc: Global, matrix: &Matrix) -> Result<Vec<Tag>, No
     Ok(tags)
 }
 
-// Adds the pairs whose ranges begin at 1 or above.
+/// Adds the pairs whose ranges begin at 1 or above.
 #[tactic(auto, using(crate::proofs::TagLemmas::lower_joins))]
-fn push_lower(tags: &mut Vec<Tag>, matrix: &Matrix, pairs: &[(u8, u8)]) -> Result<(), NoMemory>
+pub(crate) fn push_lower(
+    tags: &mut Vec<Tag>,
+    matrix: &Matrix,
+    pairs: &[(u8, u8)],
+) -> Result<(), NoMemory>
     requires { ArePairs matrix.now.size pairs.now }
     ensures { IfOk result (λ _. tags.new.items
         ≡ tags.old.items ++ lower_rows_of matrix.now pairs.now) }
@@ -73,9 +77,13 @@ fn push_lower_of(tags: &mut Vec<Tag>, matrix: &Matrix, pair: (u8, u8)) -> Result
     Ok(())
 }
 
-// Adds the pairs whose ranges are 0 alone.
+/// Adds the pairs whose ranges are 0 alone.
 #[tactic(auto, using(crate::proofs::TagLemmas::zero_joins))]
-fn push_zero(tags: &mut Vec<Tag>, matrix: &Matrix, pairs: &[(u8, u8)]) -> Result<(), NoMemory>
+pub(crate) fn push_zero(
+    tags: &mut Vec<Tag>,
+    matrix: &Matrix,
+    pairs: &[(u8, u8)],
+) -> Result<(), NoMemory>
     requires { ArePairs matrix.now.size pairs.now }
     ensures { IfOk result (λ _. tags.new.items
         ≡ tags.old.items ++ zero_rows_of matrix.now pairs.now) }

@@ -1,8 +1,9 @@
-use Rattle.std.proofs.Common.{◌≡◌, ◌∙◌, ◌++◌, ◌∷◌, [], ◌+◌, ◌<◌, ℕ, ℤ, pos, List, length, take, get_or, refl, sym, ap, subst, rules, arith}
+use Rattle.std.proofs.Common.{◌≡◌, ◌∙◌, ◌++◌, ◌∷◌, [], ◌+◌, ◌<◌, ℕ, ℤ, pos, List, length, map, take, get_or, refl, sym, ap, subst, rules, arith}
 use Rattle.std.specs.Prelude.{Some, slice_get}
 use Rattle.std.proofs.lemmas.List.{take_more}
+use Rattle.lp_macbeth.specs.Rows.{judged_rows}
 use Rattle.cert_check.specs.Rows.{AreNamed}
-use Rattle.cert_check.proofs.NamingLemmas.{AreNamed-next}
+use Rattle.cert_check.proofs.NamingLemmas.{AreNamed-next, tag_of_entry}
 use Rattle.cert_check.proofs.placing.name_rows.Goals as goal
 
 pub loop-i-init : goal.loop-i-init
@@ -10,14 +11,19 @@ loop-i-init c = subst (λ on. AreNamed c.args.matrix.now on []) (sym c.new-on.en
 
 pub loop-i-preserved : goal.loop-i-preserved
 loop-i-preserved c =
-    let entry : ℕ × ℤ = get_or c.args.cert.now.on c.loop-i.i (0, pos 0) in
-    let inside : c.loop-i.i < length c.args.cert.now.on = omega (arith, ap length c.as_slice-entries.ensures) in
-    let named = subst (λ (on : List (ℕ × ℤ)). slice_get c.as_slice.result.now (get_or on c.loop-i.i (0, pos 0)).0 ≡ Some c.named_entry.result.0)
-    c.as_slice-entries.ensures c.named_entry.ensures.tag in
-    let multiplier = subst (λ (on : List (ℕ × ℤ)). c.named_entry.result.1 ≡ (get_or on c.loop-i.i (0, pos 0)).1)
+    let m = c.args.matrix.now in
+    let on = c.args.cert.now.on in
+    let i = c.loop-i.i in
+    let entry : ℕ × ℤ = get_or on i (0, pos 0) in
+    let inside : i < length on = omega (arith, ap length c.as_slice-entries.ensures) in
+    let multiplier = subst (λ (on : List (ℕ × ℤ)). c.named_entry.result.1 ≡ (get_or on i (0, pos 0)).1)
     c.as_slice-entries.ensures c.named_entry.ensures.multiplier in
     let items : c.push.new.self.items ≡ c.loop-i.on.items ++ c.named_entry.result ∷ [] = search rules in
-    let tag = subst (λ tags. slice_get tags entry.0 ≡ Some c.named_entry.result.0) (c.as_slice.ensures.value ∙ c.in_ok-tags.ensures.tags) named in
-    subst (λ on. AreNamed c.args.matrix.now on (take (c.loop-i.i + 1) c.args.cert.now.on)) (sym items)
-    (subst (AreNamed c.args.matrix.now (c.loop-i.on.items ++ c.named_entry.result ∷ [])) (sym (take_more c.args.cert.now.on c.loop-i.i (0, pos 0) inside))
-    (AreNamed-next c.args.matrix.now c.loop-i.on.items (take c.loop-i.i c.args.cert.now.on) c.named_entry.result entry tag (sym multiplier) c.loop-i.invariant))
+    let tags = subst (λ (on : List (ℕ × ℤ)). map (λ tag. Some tag) c.in_ok-tags.tags.items ≡ map (λ (e : ℕ × ℤ). slice_get (judged_rows m) e.0) on)
+    c.as_slice-entries.ensures c.in_ok-tags.ensures in
+    let read : get_or c.in_ok-tags.tags.items i c.index.result.now ≡ c.named_entry.result.0 = sym (c.named_entry.ensures.tag ∙ c.index.ensures) in
+    let tag : slice_get (judged_rows m) entry.0 ≡ Some c.named_entry.result.0 =
+    tag_of_entry m c.in_ok-tags.tags.items on i c.index.result.now tags inside ∙ ap (λ tag. Some tag) read in
+    subst (λ named. AreNamed m named (take (i + 1) on)) (sym items)
+    (subst (AreNamed m (c.loop-i.on.items ++ c.named_entry.result ∷ [])) (sym (take_more on i (0, pos 0) inside))
+    (AreNamed-next m c.loop-i.on.items (take i on) c.named_entry.result entry tag (sym multiplier) c.loop-i.invariant))
