@@ -57,7 +57,7 @@ escaped_all (x ∷ s) h =
     at_least : (x : ℕ) → is_name_byte x ≡ true → 32 ≤ x
     at_least x h = let e = (and_parts (nat_le 32 x) (not (x == 127) && not (x == 34)) h).0 in grind (arith, nat_tests)
 
-short_name : (s : List ℕ) → IsNamed s → IsShort s
+pub short_name : (s : List ℕ) → IsNamed s → IsShort s
 short_name s is =
     let parts = (and_parts (is_utf8 s) ((nat_lt 0 (length s) && nat_le (length s) NAME_BYTES) && list_all is_name_byte s) is).1 in
     let bytes = (and_parts (nat_lt 0 (length s) && nat_le (length s) NAME_BYTES) (list_all is_name_byte s) parts) in
@@ -69,22 +69,22 @@ short_name s is =
 short_nothing : IsShort []
 short_nothing = record { few = omega arith; line = refl }
 
-short_at : (names : List (List ℕ)) (i : ℕ) → AllByRecursion IsNamed names → IsShort (get_or names i [])
+pub short_at : (names : List (List ℕ)) (i : ℕ) → AllByRecursion IsNamed names → IsShort (get_or names i [])
 short_at [] i h = short_nothing
 short_at (name ∷ names) zero h = short_name name h.0
 short_at (name ∷ names) (suc i) h = short_at names i h.1
 
-short_group : (groups : List GroupState) (i : ℕ) → AllByRecursion (λ g. IsNamed g.name) groups → IsShort (get_or groups i no_group).name
+pub short_group : (groups : List GroupState) (i : ℕ) → AllByRecursion (λ g. IsNamed g.name) groups → IsShort (get_or groups i no_group).name
 short_group [] i h = short_nothing
 short_group (g ∷ groups) zero h = short_name g.name h.0
 short_group (g ∷ groups) (suc i) h = short_group groups i h.1
 
-short_criterion : (cs : List CriterionState) (i : ℕ) → AllByRecursion IsNamedCriterion cs → IsShort (get_or cs i no_criterion).name
+pub short_criterion : (cs : List CriterionState) (i : ℕ) → AllByRecursion IsNamedCriterion cs → IsShort (get_or cs i no_criterion).name
 short_criterion [] i h = short_nothing
 short_criterion (c ∷ cs) zero h = short_name c.name h.0.named
 short_criterion (c ∷ cs) (suc i) h = short_criterion cs i h.1
 
-short_words : (words : List ℕ) → list_all is_name_byte words ≡ true → nat_le (length words) 64 ≡ true → IsShort words
+pub short_words : (words : List ℕ) → list_all is_name_byte words ≡ true → nat_le (length words) 64 ≡ true → IsShort words
 short_words words bytes most =
     let few : length words ≤ 64 = grind (arith, nat_tests) in
     let all = escaped_all words bytes in
@@ -97,7 +97,7 @@ short_items : {X : Type 0} (P : X → Type 0) (f : X → Data) → ((x : X) → 
 short_items P f one [] h = tt
 short_items P f one (x ∷ xs) h = (one x h.0, short_items P f one xs h.1)
 
-anything : {X : Type 0} (xs : List X) → AllByRecursion (λ x. Unit {0}) xs
+pub anything : {X : Type 0} (xs : List X) → AllByRecursion (λ x. Unit {0}) xs
 anything [] = tt
 anything (x ∷ xs) = (tt, anything xs)
 
@@ -179,7 +179,7 @@ short_option m named option is = (
   (short_words (codes "performances") refl refl, short_performances m.criteria option.1 no_members named tt, tt),
 )
 
-named_options : (names : List (List ℕ)) (rows : List (List (Option ℕ))) → AllByRecursion IsNamed names
+pub named_options : (names : List (List ℕ)) (rows : List (List (Option ℕ))) → AllByRecursion IsNamed names
     → AllByRecursion (λ o. IsNamed o.0) (options_with_rows names rows)
 named_options [] rows h = tt
 named_options (name ∷ names) [] h = tt

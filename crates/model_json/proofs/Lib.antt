@@ -19,6 +19,8 @@ pub mod TextLemmas
 pub mod OptionLemmas
 pub mod LineLemmas
 pub mod LayoutLines
+pub mod SizeLemmas
 pub mod DumpLines
+pub mod DumpSize
 pub mod WeightingLemmas
 pub mod LoadLemmas

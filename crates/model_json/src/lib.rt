@@ -20,5 +20,4 @@ mod writing;
 
 pub use fault::LoadFault;
 pub use loading::load;
-pub use writing::{DUMP_LINE, dump};
-
+pub use writing::{DUMP_LINE, DUMP_TEXT, dump};

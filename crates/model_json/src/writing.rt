@@ -9,7 +9,7 @@ ghost use Rattle.serde_json.specs.View.{view};
 ghost use Rattle.serde_json.specs.Written.{IsInOrder};
 ghost use Rattle.model_json.specs.Writing.{criterion_data, group_data, option_data, options_with_rows, criterion_name, weighting_data, model_data, dump_text};
 ghost use Rattle.model_json.specs.Text.{load_of};
-ghost use Rattle.model_json.specs.declared.writing.TheConstants.{DUMP_LINE};
+ghost use Rattle.model_json.specs.declared.writing.TheConstants.{DUMP_LINE, DUMP_TEXT};
 
 use crate::kept::model_is_named;
 use crate::values::{
@@ -131,6 +131,9 @@ fn pretty_text(alloc: Global, value: &Value) -> Result<String, NoMemory>
 /// The most bytes of a line of a text that `dump` writes, without its newline.
 pub const DUMP_LINE: usize = 300;
 
+/// The most bytes of a text that `dump` writes: fewer than the 1,048,576 of a block.
+pub const DUMP_TEXT: usize = 700_000;
+
 /// The text of a model, in format 2 and in the pretty layout.
 pub fn dump(alloc: Global, model: &Model) -> Result<String, NoMemory>
     ensures text { IfOk result (λ s. string_bytes s ≡ dump_text model.now) }
@@ -138,6 +141,7 @@ pub fn dump(alloc: Global, model: &Model) -> Result<String, NoMemory>
     ensures again { IfOk result (λ s. load_of (string_bytes s) ≡ Ok model.now) }
     ensures lines { IfOk result (λ s.
         All (λ line. length line ≤ DUMP_LINE) (slice_split (λ byte. byte == 10) (string_bytes s))) }
+    ensures size { IfOk result (λ s. length (string_bytes s) ≤ DUMP_TEXT) }
 {
     model_is_named(model);
     let value = model_value(alloc, model)?;

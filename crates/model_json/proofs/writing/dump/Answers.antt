@@ -3,6 +3,7 @@ use Rattle.std.specs.List.{slice_split}
 use Rattle.model_json.specs.Writing.{model_data}
 use Rattle.model_json.proofs.DumpText.{json_some, shallow_model, text_from_order}
 use Rattle.model_json.proofs.DumpLines.{lines_of_dump}
+use Rattle.model_json.proofs.DumpSize.{size_of_dump}
 use Rattle.model_json.proofs.ModelAgain.{load_again}
 use Rattle.model_json.proofs.writing.dump.Goals as goal
 
@@ -25,3 +26,11 @@ returns-clause-lines c =
     subst (λ text. All (λ line. length line ≤ 300) (slice_split (λ byte. byte == 10) text))
     (sym (text_from_order (string_bytes c.in_ok-text.text) m written.layout written.order))
     (lines_of_dump m c.model_is_named.ensures)
+
+pub returns-clause-size : goal.returns-clause-size
+returns-clause-size c =
+    let written = rw c.in_ok-value.ensures at c.in_ok-text.ensures in
+    let m = c.args.model.now in
+    subst (λ text. length text ≤ 700000)
+    (sym (text_from_order (string_bytes c.in_ok-text.text) m written.layout written.order))
+    (size_of_dump m c.model_is_named.ensures)
