@@ -30,14 +30,4 @@ fn run_process(rt: &HostRuntime) -> Status {
 }
 
 #[cfg(test)]
-mod edit_tests;
-#[cfg(test)]
-mod fault_tests;
-#[cfg(test)]
-mod limit_tests;
-#[cfg(test)]
-mod session_tests;
-#[cfg(test)]
 mod tests;
-#[cfg(test)]
-mod wide_tests;

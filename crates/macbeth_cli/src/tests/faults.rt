@@ -1,8 +1,8 @@
-use super::*;
-use crate::tests::{ROOM, run_plainly};
+use super::{ROOM, run_plainly};
 use line_io::{MemSink, MemSource, NeverSink, NeverSource};
 use std::alloc::Global;
 use std::test::Fail;
+use transcript::Status;
 
 /// The lines of a session, each with its reply.
 const HOUSING: [(&str, &str); 21] = [

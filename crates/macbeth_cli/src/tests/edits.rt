@@ -1,6 +1,4 @@
-use super::*;
-use crate::tests::{ROOM, run_plainly};
-use line_io::{NeverSink, NeverSource};
+use super::{ROOM, answered};
 use std::alloc::Global;
 use std::test::Fail;
 
@@ -198,21 +196,10 @@ place price g
 place size k
 "criteria":[{"elements":["low","mid","high"],"good":"low","group":"h","judgements":[[1,3,3,4]],"name":"price","neutral":"high","reach":1000},{"elements":["large","small"],"good":"large","group":"k","judgements":[],"name":"size","neutral":"small","reach":1000},{"elements":["none","weighting"],"good":"none","judgements":[],"name":"noise","neutral":"weighting","reach":1000}],"#;
 
-/// What a session of this input writes, where that has no more than so many bytes.
-fn answered(alloc: Global, input: String, room: usize) -> Result<String, Fail> {
-    let mut source = NeverSource::make(input.into_bytes());
-    let mut sink = NeverSink::make(alloc, room)?;
-    let status = run_plainly(alloc, &mut source, &mut sink);
-    if status != Status::Done {
-        return Err(Fail::from("a session that isn't done"));
-    }
-    Ok(String::from_utf8_lossy(alloc, sink.bytes())?)
-}
-
 /// What is written for a line behind the model of the tests, and for a `dump` behind the line.
 fn asked(alloc: Global, line: &str) -> Result<String, Fail> {
     let input = format!(in alloc; "{START}{line}\ndump\n")?;
-    let output = answered(alloc, input, ROOM)?;
+    let output = answered(alloc, input.into_bytes(), ROOM)?;
     let replies = output.as_str().strip_prefix(STARTED).ok_or(line)?;
     Ok(String::from_str(alloc, replies)?)
 }
@@ -442,7 +429,7 @@ fn the_greatest_model(rt: HostRuntime) -> Result<(), Fail> {
     let mut shown = String::new(alloc);
     add_greatest(&mut lines, &mut shown)?;
     lines.push_str(BEHIND)?;
-    let output = answered(alloc, lines, GREATEST_ROOM)?;
+    let output = answered(alloc, lines.into_bytes(), GREATEST_ROOM)?;
     let (_, replies) = output.as_str().split_once("dump").ok_or("a dump")?;
     let (dump, _) = replies.split_once("refused").ok_or("a refusal")?;
     assert_eq!(rt; laid_out(alloc, dump)?.as_str(), shown.as_str());

@@ -1,8 +1,8 @@
-use super::*;
-use crate::tests::{ABC, ABC_REPLIES, ROOM, bytes_of, run_plainly};
+use super::{ABC, ABC_REPLIES, ROOM, bytes_of, run_plainly};
 use line_io::{NeverSink, NeverSource};
 use std::alloc::Global;
 use std::test::Fail;
+use transcript::Status;
 
 /// What a session of this input writes, and how it ends.
 fn answered(alloc: Global, input: Vec<u8>) -> Result<(Status, Vec<u8>), Fail> {

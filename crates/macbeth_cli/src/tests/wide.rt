@@ -1,8 +1,8 @@
-use super::*;
-use crate::tests::run_plainly;
+use super::run_plainly;
 use line_io::{NeverSink, NeverSource};
 use std::alloc::Global;
 use std::test::Fail;
+use transcript::Status;
 
 /// For each criterion of 24 elements how many of its neighbours are judged by which category, those at the bottom by the lowest.
 /// A difference of a category is above the whole stretch of the category below it, so the scales are wide: their spans have no
