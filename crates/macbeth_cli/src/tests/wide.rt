@@ -1,112 +1,96 @@
-use super::run_plainly;
-use line_io::{NeverSink, NeverSource};
-use std::alloc::Global;
+//! Sums that no fraction of the program holds.
+use super::table::hold;
 use std::test::Fail;
-use transcript::Status;
 
-/// For each criterion of 24 elements how many of its neighbours are judged by which category, those at the bottom by the lowest.
-/// A difference of a category is above the whole stretch of the category below it, so the scales are wide: their spans have no
-/// common divisor, and their product has 137 bits.
-const STRETCHES: [[usize; 6]; 11] = [
-    [3, 4, 4, 5, 4, 3],
-    [2, 4, 5, 4, 4, 4],
-    [3, 4, 5, 4, 3, 4],
-    [4, 3, 4, 4, 4, 4],
-    [3, 4, 3, 5, 5, 3],
-    [3, 4, 3, 4, 5, 4],
-    [2, 4, 6, 4, 4, 3],
-    [2, 4, 4, 4, 6, 3],
-    [2, 6, 4, 4, 4, 3],
-    [3, 4, 3, 4, 6, 3],
-    [2, 5, 3, 5, 5, 3],
-];
-
-/// Adds the line that judges two elements.
-fn add_judgement(
-    alloc: Global,
-    input: &mut Vec<u8>,
-    criterion: usize,
-    pair: (usize, usize),
-    category: usize,
-) -> Result<(), Fail> {
-    let (upper, lower) = pair;
-    let line = format!(in alloc; "judge c{criterion} e{upper} e{lower} {category}\n")?;
-    input.extend_from_slice(line.as_bytes())?;
-    Ok(())
-}
-
-/// Adds the line with a criterion of 24 elements, and an option's performance on it.
-fn add_criterion(alloc: Global, input: &mut Vec<u8>, criterion: usize) -> Result<(), Fail> {
-    let line = format!(in alloc;
-        "criterion c{criterion} e1 e2 e3 e4 e5 e6 e7 e8 e9 e10 e11 e12 e13 e14 e15 e16 e17 e18 e19 e20 e21 e22 e23 e24\n"
-    )?;
-    input.extend_from_slice(line.as_bytes())?;
-    let line = format!(in alloc; "perform a c{criterion} e23\n")?;
-    input.extend_from_slice(line.as_bytes())?;
-    Ok(())
-}
-
-/// Adds the judgements of one stretch, whose lowest element is told. Gives its highest.
-fn add_stretch(
-    alloc: Global,
-    input: &mut Vec<u8>,
-    criterion: usize,
-    lowest: usize,
-    count: usize,
-    category: usize,
-) -> Result<usize, Fail> {
-    let mut lower = lowest;
-    for _ in 0..count {
-        let upper = lower.saturating_sub(1);
-        add_judgement(alloc, input, criterion, (upper, lower), category)?;
-        lower = upper;
-    }
-    add_judgement(alloc, input, criterion, (lower, lowest), category)?;
-    Ok(lower)
-}
-
-/// Adds the judgements of one criterion.
-fn add_stretches(
-    alloc: Global,
-    input: &mut Vec<u8>,
-    criterion: usize,
-    counts: &[usize],
-) -> Result<(), Fail> {
-    let mut lowest = 24;
-    let mut category: usize = 1;
-    for count in counts {
-        lowest = add_stretch(alloc, input, criterion, lowest, *count, category)?;
-        category = category.saturating_add(1);
-    }
-    Ok(())
-}
-
-/// A session of these criteria, whose swings are equal.
-fn wide_input(alloc: Global) -> Result<Vec<u8>, Fail> {
-    let mut input = Vec::from_slice(alloc, b"option a\n")?;
-    let mut criterion: usize = 1;
-    for counts in &STRETCHES {
-        add_criterion(alloc, &mut input, criterion)?;
-        add_stretches(alloc, &mut input, criterion, counts)?;
-        criterion = criterion.saturating_add(1);
-    }
-    input.extend_from_slice(
-        b"weigh c1 c11 0\nweigh c11 none 1\nweights\nanchored c11\nsubtotals a\nscores\nstats\n",
-    )?;
-    Ok(input)
-}
+/// Of each criterion of 24 elements some neighbours are judged by each category, those at the bottom by the lowest. A difference
+/// of a category is above the whole stretch of the category below it, so the scales are wide: their spans have no common
+/// divisor, and their product has 137 bits. The swings are equal.
+const WIDE: &str = r#"
+== sums that are too wide
+> load
+> {"macbeth":1,"criteria":[
+> {"name":"c1","elements":["e1","e2","e3","e4","e5","e6","e7","e8","e9","e10","e11","e12","e13","e14","e15",
+> "e16","e17","e18","e19","e20","e21","e22","e23","e24"],"judgements":[[1,2,6,6],[1,4,6,6],[2,3,6,6],
+> [3,4,6,6],[4,5,5,5],[4,8,5,5],[5,6,5,5],[6,7,5,5],[7,8,5,5],[8,9,4,4],[8,13,4,4],[9,10,4,4],[10,11,4,4],
+> [11,12,4,4],[12,13,4,4],[13,14,3,3],[13,17,3,3],[14,15,3,3],[15,16,3,3],[16,17,3,3],[17,18,2,2],[17,21,2,2],
+> [18,19,2,2],[19,20,2,2],[20,21,2,2],[21,22,1,1],[21,24,1,1],[22,23,1,1],[23,24,1,1]]},
+> {"name":"c2","elements":["e1","e2","e3","e4","e5","e6","e7","e8","e9","e10","e11","e12","e13","e14","e15",
+> "e16","e17","e18","e19","e20","e21","e22","e23","e24"],"judgements":[[1,2,6,6],[1,5,6,6],[2,3,6,6],
+> [3,4,6,6],[4,5,6,6],[5,6,5,5],[5,9,5,5],[6,7,5,5],[7,8,5,5],[8,9,5,5],[9,10,4,4],[9,13,4,4],[10,11,4,4],
+> [11,12,4,4],[12,13,4,4],[13,14,3,3],[13,18,3,3],[14,15,3,3],[15,16,3,3],[16,17,3,3],[17,18,3,3],[18,19,2,2],
+> [18,22,2,2],[19,20,2,2],[20,21,2,2],[21,22,2,2],[22,23,1,1],[22,24,1,1],[23,24,1,1]]},
+> {"name":"c3","elements":["e1","e2","e3","e4","e5","e6","e7","e8","e9","e10","e11","e12","e13","e14","e15",
+> "e16","e17","e18","e19","e20","e21","e22","e23","e24"],"judgements":[[1,2,6,6],[1,5,6,6],[2,3,6,6],
+> [3,4,6,6],[4,5,6,6],[5,6,5,5],[5,8,5,5],[6,7,5,5],[7,8,5,5],[8,9,4,4],[8,12,4,4],[9,10,4,4],[10,11,4,4],
+> [11,12,4,4],[12,13,3,3],[12,17,3,3],[13,14,3,3],[14,15,3,3],[15,16,3,3],[16,17,3,3],[17,18,2,2],[17,21,2,2],
+> [18,19,2,2],[19,20,2,2],[20,21,2,2],[21,22,1,1],[21,24,1,1],[22,23,1,1],[23,24,1,1]]},
+> {"name":"c4","elements":["e1","e2","e3","e4","e5","e6","e7","e8","e9","e10","e11","e12","e13","e14","e15",
+> "e16","e17","e18","e19","e20","e21","e22","e23","e24"],"judgements":[[1,2,6,6],[1,5,6,6],[2,3,6,6],
+> [3,4,6,6],[4,5,6,6],[5,6,5,5],[5,9,5,5],[6,7,5,5],[7,8,5,5],[8,9,5,5],[9,10,4,4],[9,13,4,4],[10,11,4,4],
+> [11,12,4,4],[12,13,4,4],[13,14,3,3],[13,17,3,3],[14,15,3,3],[15,16,3,3],[16,17,3,3],[17,18,2,2],[17,20,2,2],
+> [18,19,2,2],[19,20,2,2],[20,21,1,1],[20,24,1,1],[21,22,1,1],[22,23,1,1],[23,24,1,1]]},
+> {"name":"c5","elements":["e1","e2","e3","e4","e5","e6","e7","e8","e9","e10","e11","e12","e13","e14","e15",
+> "e16","e17","e18","e19","e20","e21","e22","e23","e24"],"judgements":[[1,2,6,6],[1,4,6,6],[2,3,6,6],
+> [3,4,6,6],[4,5,5,5],[4,9,5,5],[5,6,5,5],[6,7,5,5],[7,8,5,5],[8,9,5,5],[9,10,4,4],[9,14,4,4],[10,11,4,4],
+> [11,12,4,4],[12,13,4,4],[13,14,4,4],[14,15,3,3],[14,17,3,3],[15,16,3,3],[16,17,3,3],[17,18,2,2],[17,21,2,2],
+> [18,19,2,2],[19,20,2,2],[20,21,2,2],[21,22,1,1],[21,24,1,1],[22,23,1,1],[23,24,1,1]]},
+> {"name":"c6","elements":["e1","e2","e3","e4","e5","e6","e7","e8","e9","e10","e11","e12","e13","e14","e15",
+> "e16","e17","e18","e19","e20","e21","e22","e23","e24"],"judgements":[[1,2,6,6],[1,5,6,6],[2,3,6,6],
+> [3,4,6,6],[4,5,6,6],[5,6,5,5],[5,10,5,5],[6,7,5,5],[7,8,5,5],[8,9,5,5],[9,10,5,5],[10,11,4,4],[10,14,4,4],
+> [11,12,4,4],[12,13,4,4],[13,14,4,4],[14,15,3,3],[14,17,3,3],[15,16,3,3],[16,17,3,3],[17,18,2,2],[17,21,2,2],
+> [18,19,2,2],[19,20,2,2],[20,21,2,2],[21,22,1,1],[21,24,1,1],[22,23,1,1],[23,24,1,1]]},
+> {"name":"c7","elements":["e1","e2","e3","e4","e5","e6","e7","e8","e9","e10","e11","e12","e13","e14","e15",
+> "e16","e17","e18","e19","e20","e21","e22","e23","e24"],"judgements":[[1,2,6,6],[1,4,6,6],[2,3,6,6],
+> [3,4,6,6],[4,5,5,5],[4,8,5,5],[5,6,5,5],[6,7,5,5],[7,8,5,5],[8,9,4,4],[8,12,4,4],[9,10,4,4],[10,11,4,4],
+> [11,12,4,4],[12,13,3,3],[12,18,3,3],[13,14,3,3],[14,15,3,3],[15,16,3,3],[16,17,3,3],[17,18,3,3],[18,19,2,2],
+> [18,22,2,2],[19,20,2,2],[20,21,2,2],[21,22,2,2],[22,23,1,1],[22,24,1,1],[23,24,1,1]]},
+> {"name":"c8","elements":["e1","e2","e3","e4","e5","e6","e7","e8","e9","e10","e11","e12","e13","e14","e15",
+> "e16","e17","e18","e19","e20","e21","e22","e23","e24"],"judgements":[[1,2,6,6],[1,4,6,6],[2,3,6,6],
+> [3,4,6,6],[4,5,5,5],[4,10,5,5],[5,6,5,5],[6,7,5,5],[7,8,5,5],[8,9,5,5],[9,10,5,5],[10,11,4,4],[10,14,4,4],
+> [11,12,4,4],[12,13,4,4],[13,14,4,4],[14,15,3,3],[14,18,3,3],[15,16,3,3],[16,17,3,3],[17,18,3,3],[18,19,2,2],
+> [18,22,2,2],[19,20,2,2],[20,21,2,2],[21,22,2,2],[22,23,1,1],[22,24,1,1],[23,24,1,1]]},
+> {"name":"c9","elements":["e1","e2","e3","e4","e5","e6","e7","e8","e9","e10","e11","e12","e13","e14","e15",
+> "e16","e17","e18","e19","e20","e21","e22","e23","e24"],"judgements":[[1,2,6,6],[1,4,6,6],[2,3,6,6],
+> [3,4,6,6],[4,5,5,5],[4,8,5,5],[5,6,5,5],[6,7,5,5],[7,8,5,5],[8,9,4,4],[8,12,4,4],[9,10,4,4],[10,11,4,4],
+> [11,12,4,4],[12,13,3,3],[12,16,3,3],[13,14,3,3],[14,15,3,3],[15,16,3,3],[16,17,2,2],[16,22,2,2],[17,18,2,2],
+> [18,19,2,2],[19,20,2,2],[20,21,2,2],[21,22,2,2],[22,23,1,1],[22,24,1,1],[23,24,1,1]]},
+> {"name":"c10","elements":["e1","e2","e3","e4","e5","e6","e7","e8","e9","e10","e11","e12","e13","e14","e15",
+> "e16","e17","e18","e19","e20","e21","e22","e23","e24"],"judgements":[[1,2,6,6],[1,4,6,6],[2,3,6,6],
+> [3,4,6,6],[4,5,5,5],[4,10,5,5],[5,6,5,5],[6,7,5,5],[7,8,5,5],[8,9,5,5],[9,10,5,5],[10,11,4,4],[10,14,4,4],
+> [11,12,4,4],[12,13,4,4],[13,14,4,4],[14,15,3,3],[14,17,3,3],[15,16,3,3],[16,17,3,3],[17,18,2,2],[17,21,2,2],
+> [18,19,2,2],[19,20,2,2],[20,21,2,2],[21,22,1,1],[21,24,1,1],[22,23,1,1],[23,24,1,1]]},
+> {"name":"c11","elements":["e1","e2","e3","e4","e5","e6","e7","e8","e9","e10","e11","e12","e13","e14","e15",
+> "e16","e17","e18","e19","e20","e21","e22","e23","e24"],"judgements":[[1,2,6,6],[1,4,6,6],[2,3,6,6],
+> [3,4,6,6],[4,5,5,5],[4,9,5,5],[5,6,5,5],[6,7,5,5],[7,8,5,5],[8,9,5,5],[9,10,4,4],[9,14,4,4],[10,11,4,4],
+> [11,12,4,4],[12,13,4,4],[13,14,4,4],[14,15,3,3],[14,17,3,3],[15,16,3,3],[16,17,3,3],[17,18,2,2],[17,22,2,2],
+> [18,19,2,2],[19,20,2,2],[20,21,2,2],[21,22,2,2],[22,23,1,1],[22,24,1,1],[23,24,1,1]]}],
+> "options":[{"name":"a","performances":{"c1":"e23","c2":"e23","c3":"e23","c4":"e23","c5":"e23","c6":"e23",
+> "c7":"e23","c8":"e23","c9":"e23","c10":"e23","c11":"e23"}}],
+> "weighting":{"judgements":[[1,11,0,0],[11,12,1,1]]}}
+> end
+ok
+> weights
+weights 11
+"c1" 1/11 0.09
+"c2" 1/11 0.09
+"c3" 1/11 0.09
+"c4" 1/11 0.09
+"c5" 1/11 0.09
+"c6" 1/11 0.09
+"c7" 1/11 0.09
+"c8" 1/11 0.09
+"c9" 1/11 0.09
+"c10" 1/11 0.09
+"c11" 1/11 0.09
+> subtotals a
+refused 27 too wide
+> scores
+refused 27 too wide
+> stats
+stats pivots 309 kept 12
+"#;
 
 #[test]
 fn sums_that_are_too_wide(rt: HostRuntime) -> Result<(), Fail> {
-    let alloc = rt.alloc();
-    let mut source = NeverSource::make(wide_input(alloc)?);
-    let mut sink = NeverSink::make(alloc, 4_000)?;
-    let status = run_plainly(alloc, &mut source, &mut sink);
-    assert_eq!(rt; status, Status::Done);
-    assert!(rt;
-        sink.bytes().ends_with(
-            b"\"e23\" 100/5233 0.02\n\"e24\" 0 0.00\nrefused 27 too wide\nrefused 27 too wide\nstats pivots 309 kept 12\n"
-        )
-    );
-    Ok(())
+    hold(&rt, rt.alloc(), "", WIDE)
 }
