@@ -1,8 +1,14 @@
 //! Tests over memory: whole sessions, their faults and their limits.
 mod basics;
+mod bytes;
+mod commands;
+mod csv;
+mod dumps;
 mod edits;
 mod faults;
 mod limits;
+mod loads;
+mod names;
 mod sessions;
 mod table;
 mod wide;

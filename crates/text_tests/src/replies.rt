@@ -18,17 +18,6 @@ fn name_of(alloc: Global, text: &str) -> Result<Name, Fail> {
     Ok(Name::check(alloc, text.as_bytes())?.ok_or("no name")?)
 }
 
-// The names with these texts.
-fn names_of(alloc: Global, texts: &[&str]) -> Result<List<Name>, Fail>
-    ensures { IfOk result (λ names. length names ≡ length texts.now) }
-{
-    let mut names = Vec::new(alloc);
-    for text in texts {
-        names.push(name_of(alloc, text)?)?;
-    }
-    Ok(List::make(names))
-}
-
 // The fraction with these parts.
 fn ratio(num: i128, den: i128) -> Result<Frac, Fail> {
     if den == 0 {
@@ -37,30 +26,10 @@ fn ratio(num: i128, den: i128) -> Result<Frac, Fail> {
     Ok(Frac::make(num, den).map_err(|_| "too wide")?)
 }
 
-// The fractions with these parts.
-fn ratios(alloc: Global, parts: &[(i128, i128)]) -> Result<List<Frac>, Fail>
-    ensures { IfOk result (λ values. length values ≡ length parts.now) }
-{
-    let mut values = Vec::new(alloc);
-    for (num, den) in parts {
-        values.push(ratio(*num, *den)?)?;
-    }
-    Ok(List::make(values))
-}
-
 // The two names with these texts.
 fn pair_of(alloc: Global, first: &str, second: &str) -> Result<(Name, Name), Fail> {
     let first = name_of(alloc, first)?;
     Ok((first, name_of(alloc, second)?))
-}
-
-// The pairs of names with these texts.
-fn pairs_of(alloc: Global, texts: &[(&str, &str)]) -> Result<List<(Name, Name)>, Fail> {
-    let mut pairs = Vec::new(alloc);
-    for (first, second) in texts {
-        pairs.push(pair_of(alloc, first, second)?)?;
-    }
-    Ok(List::make(pairs))
 }
 
 #[test]
@@ -111,9 +80,11 @@ fn a_shift_too_wide(rt: HostRuntime) -> Result<(), Fail> {
 
 #[test]
 fn dominances(rt: HostRuntime) -> Result<(), Fail> {
-    let pairs = pairs_of(rt.alloc(), &[("a", "b"), ("c", "b")])?;
+    let alloc = rt.alloc();
+    let pairs = [pair_of(alloc, "a", "b")?, pair_of(alloc, "c", "b")?];
+    let pairs = List::make(Vec::from_array(alloc, pairs)?);
     assert_eq!(rt;
-        text(rt.alloc(), &Reply::Dominances { pairs })?.as_str(),
+        text(alloc, &Reply::Dominances { pairs })?.as_str(),
         "dominances 2\n\"a\" \"b\"\n\"c\" \"b\"\n"
     );
     Ok(())
@@ -128,12 +99,24 @@ fn shift(alloc: Global, by: [i8; 3]) -> Result<Shift, Fail>
     })
 }
 
+// The names of three elements.
+fn three_names(alloc: Global) -> Result<List<Name>, Fail>
+    ensures { IfOk result (λ names. length names ≡ 3) }
+{
+    let names = [
+        name_of(alloc, "A")?,
+        name_of(alloc, "B")?,
+        name_of(alloc, "C")?,
+    ];
+    Ok(List::make(Vec::from_array(alloc, names)?))
+}
+
 // What is written for these two repairs of three elements.
 fn repaired(alloc: Global, total: u8, first: [i8; 3], second: [i8; 3]) -> Result<String, Fail> {
     let first = shift(alloc, first)?;
     let second = shift(alloc, second)?;
     let shifts = List::make(vec![in alloc; first, second]?);
-    let names = names_of(alloc, &["A", "B", "C"])?;
+    let names = three_names(alloc)?;
     Ok(text(
         alloc,
         &Reply::Repairs {
@@ -181,14 +164,13 @@ fn amounts_of(alloc: Global, all: &[(&str, i128, i128)]) -> Result<List<(Name, F
 }
 
 // A name with the values of a scale.
-fn scale_of(alloc: Global, text: &str, values: [i128; 3]) -> Result<(Name, List<Frac>), Fail> {
-    let [first, second, third] = values;
-    let values = ratios(alloc, &[(first, 1), (second, 1), (third, 1)])?;
+fn scale_of(alloc: Global, text: &str, values: [Frac; 3]) -> Result<(Name, List<Frac>), Fail> {
+    let values = List::make(Vec::from_array(alloc, values)?);
     Ok((name_of(alloc, text)?, values))
 }
 
 // Names with the three values of a scale.
-fn scales_of(alloc: Global, all: &[(&str, [i128; 3])]) -> Result<List<(Name, List<Frac>)>, Fail> {
+fn scales_of(alloc: Global, all: &[(&str, [Frac; 3])]) -> Result<List<(Name, List<Frac>)>, Fail> {
     let mut scales = Vec::new(alloc);
     for (text, values) in all {
         scales.push(scale_of(alloc, text, *values)?)?;
@@ -199,7 +181,13 @@ fn scales_of(alloc: Global, all: &[(&str, [i128; 3])]) -> Result<List<(Name, Lis
 #[test]
 fn not(rt: HostRuntime) -> Result<(), Fail> {
     let gap = ratio(-25, 4)?;
-    let scales = scales_of(rt.alloc(), &[("c1", [100, 45, 0]), ("c2", [100, 20, 0])])?;
+    let scales = scales_of(
+        rt.alloc(),
+        &[
+            ("c1", [Frac::whole(100), Frac::whole(45), Frac::whole(0)]),
+            ("c2", [Frac::whole(100), Frac::whole(20), Frac::whole(0)]),
+        ],
+    )?;
     let weights = amounts_of(rt.alloc(), &[("c1", 59, 108), ("c2", 49, 108)])?;
     let reply = Reply::Not {
         gap,

@@ -67,13 +67,18 @@ fn an_option_too_many(rt: HostRuntime) -> Result<(), Fail> {
 }
 
 #[test]
-fn a_long_comment(rt: HostRuntime) -> Result<(), Fail> {
+fn long_lines(rt: HostRuntime) -> Result<(), Fail> {
     let alloc = rt.alloc();
     let mut input = vec![in alloc; b'#'; 65_536]?;
+    input.extend_from_slice(b"\nweigh-order")?;
+    repeat(&mut input, b" c", 27_000)?;
     input.extend_from_slice(b"\nquit\n")?;
     let (status, text) = answered(alloc, input)?;
     assert_eq!(rt; status, Status::Done);
-    assert_eq!(rt; text.as_slice(), b"ok\n".as_slice());
+    assert_eq!(rt;
+        text.as_slice(),
+        b"refused 9 unknown criterion\nok\n".as_slice()
+    );
     Ok(())
 }
 

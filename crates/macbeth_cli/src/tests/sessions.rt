@@ -1,6 +1,6 @@
 //! The worked sessions.
 use super::table::hold;
-use super::{ABC, ABC_REPLIES, ROOM, answered, bytes_of, run_plainly};
+use super::{ABC, ABC_REPLIES, ROOM, bytes_of, run_plainly};
 use line_io::{NeverSink, NeverSource};
 use std::alloc::Global;
 use std::test::Fail;
@@ -677,23 +677,6 @@ fn sessions_behind_judgements(rt: HostRuntime) -> Result<(), Fail> {
 #[test]
 fn sessions_from_the_start(rt: HostRuntime) -> Result<(), Fail> {
     hold(&rt, rt.alloc(), "", WHOLE)
-}
-
-/// Lines with tabs and with ends of their own, behind the judged criterion, and what is written for them.
-const ENDS: [(&str, &str); 3] = [
-    ("\t\nfits c 5\t2 0\n", "meets\n"),
-    ("fits c 5 2 0", "meets\n"),
-    ("fits c 5 2 0\r\nquit\r\n", "meets\nok\n"),
-];
-
-#[test]
-fn tabs_and_ends_of_lines(rt: HostRuntime) -> Result<(), Fail> {
-    let alloc = rt.alloc();
-    for (lines, replies) in &ENDS {
-        let text = answered(alloc, bytes_of(alloc, &[ABC, lines])?, ROOM)?;
-        assert_eq!(rt; text.as_str().strip_prefix(ABC_REPLIES), Some(*replies));
-    }
-    Ok(())
 }
 
 /// Judgements, the bytes of the replies to them, and the scale or its absence that they give before the certificate.
