@@ -3,7 +3,7 @@ use Rattle.std.proofs.Common.{◌≡◌, ℕ, zero, suc, ◌+◌, ◌<◌, ◌�
 use Rattle.std.specs.List.{IsDistinct}
 use Rattle.std.specs.Option.{option_and_then, IfSome}
 use Rattle.std.proofs.lemmas.Option.{get_or_from_slice_get}
-use Rattle.judgement_matrix.specs.Matrix.{unjudged}
+use Rattle.judgement_matrix.specs.Matrix.{Judgements, unjudged}
 use Rattle.model_core.specs.Lists.{changed_at}
 use Rattle.model_core.specs.declared.limits.TheConstants.{CRITERIA, GROUPS}
 use Rattle.model_core.proofs.RosterLemmas.{length-changed}
@@ -105,3 +105,17 @@ pub set-changed : {A : Type 0} (f : A → A) (xs : List A) (i : ℕ) (d : A) →
 set-changed f [] i d within = absurd (omega arith)
 set-changed f (x ∷ xs) zero d within = refl
 set-changed f (x ∷ xs) (suc i) d within = ap (λ ys. x ∷ ys) (set-changed f xs i d (omega arith))
+
+-- a model with the same parts
+pub IsModel-parts : (m : ModelState) → IsModel m
+    → (options : List (List ℕ)) (criteria : List CriterionState) (groups : List GroupState) (rows : List (List (Option ℕ))) (order : List ℕ) (w : Judgements)
+    → options ≡ m.options → criteria ≡ m.criteria → groups ≡ m.groups → rows ≡ m.performances → order ≡ m.order → w ≡ m.weighting
+    → IsModel (record { options = options; criteria = criteria; groups = groups; performances = rows; order = order; weighting = w })
+IsModel-parts m is options criteria groups rows order w o c g p n e = subst IsModel (λ i. record {
+  options = sym o i;
+  criteria = sym c i;
+  groups = sym g i;
+  performances = sym p i;
+  order = sym n i;
+  weighting = sym e i;
+}) is

@@ -1,5 +1,6 @@
 //! Changes of a model at known places: what the edits do once they have found them.
-ghost use Rattle.std.specs.Prelude.{◌≡◌, ◌+◌, ◌<◌, ◌≤◌, length, IfSome, None, map, remove, ◌++◌, ◌∷◌, [], OnOk, OnErr, All, nat_lt, ◌-◌, if◌then◌else◌};
+ghost use Rattle.std.specs.Prelude.{◌≡◌, ◌+◌, ◌<◌, ◌≤◌, length, IfOk, IfSome, None, map, remove, ◌++◌, ◌∷◌, [], OnOk, OnErr, All, nat_lt, ◌-◌, if◌then◌else◌};
+ghost use Rattle.judgement_matrix.specs.Change.{grown};
 ghost use Rattle.judgement_matrix.specs.Matrix.{Judgements, IsPair, judged, cleared, unjudged};
 ghost use Rattle.judgement_matrix.specs.declared.matrix.TheConstants.{LIMIT};
 ghost use Rattle.integers.specs.Counting.{IsOrder};
@@ -52,9 +53,8 @@ impl Model {
     {
         let number = self.criteria.len();
         // The steps that can fail and leave nothing to undo come first.
-        let mut weighting = self.weighting.copy()?;
-        weighting.grow()?;
         self.order.reserve(1)?;
+        let weighting = grown_copy(&self.weighting)?;
         self.criteria.push(criterion)?;
         self.order.push(number).unwrap();
         self.weighting = weighting;
@@ -215,6 +215,16 @@ impl Model {
     pub(crate) fn allocator(&self) -> Global {
         *self.order.allocator()
     }
+}
+
+// The judgements with one more element.
+fn grown_copy(judgements: &Matrix) -> Result<Matrix, NoMemory>
+    requires { judgements.now.size < LIMIT }
+    ensures { IfOk result (λ copy. copy ≡ grown judgements.now) }
+{
+    let mut copy = judgements.copy()?;
+    copy.grow()?;
+    Ok(copy)
 }
 
 // A place for one more criterion in each row.

@@ -56,14 +56,37 @@ impl Model {
     pub fn copy(&self) -> Result<Model, NoMemory>
         ensures { IfOk result (λ copy. copy ≡ self.now) }
     {
+        let weighting = self.weighting.copy()?;
+        let (rows, order) = self.copied_rows()?;
+        let (options, criteria, groups) = self.copied_lists()?;
         Ok(Model {
-            options: self.options.copy()?,
-            criteria: self.criteria.copy()?,
-            groups: self.groups.copy()?,
-            rows: copied(&self.rows)?,
-            order: self.order.clone()?,
-            weighting: self.weighting.copy()?,
+            options,
+            criteria,
+            groups,
+            rows,
+            order,
+            weighting,
         })
+    }
+
+    // The things with names, copied.
+    fn copied_lists(&self) -> Result<(Roster<Name>, Roster<Criterion>, Roster<Group>), NoMemory>
+        ensures options { IfOk result (λ copy. copy.0 ≡ self.now.options) }
+        ensures criteria { IfOk result (λ copy. copy.1 ≡ self.now.criteria) }
+        ensures groups { IfOk result (λ copy. copy.2 ≡ self.now.groups) }
+    {
+        let options = self.options.copy()?;
+        let criteria = self.criteria.copy()?;
+        Ok((options, criteria, self.groups.copy()?))
+    }
+
+    // The performances and the weighting order, copied.
+    fn copied_rows(&self) -> Result<(Vec<Row>, Vec<usize>), NoMemory>
+        ensures rows { IfOk result (λ copy. copy.0.items ≡ self.now.performances) }
+        ensures order { IfOk result (λ copy. copy.1.items ≡ self.now.order) }
+    {
+        let order = self.order.clone()?;
+        Ok((copied(&self.rows)?, order))
     }
 
     /// The number of options.

@@ -100,6 +100,16 @@ impl<T: Named> Roster<T> {
         Ok(())
     }
 
+    // Puts an equal one behind the others.
+    fn push_copy(&mut self, item: &T) -> Result<(), NoMemory>
+    where
+        T: Drop,
+        requires { find T.name self.old (T.name item.now) ≡ None }
+        ensures { OnOk result (self.new ≡ self.old ++ item.now ∷ []) }
+    {
+        self.push(item.copy()?)
+    }
+
     /// Takes one out. Those behind it move up by one place.
     pub(crate) fn remove(&mut self, at: usize)
     where
@@ -139,7 +149,7 @@ impl<T: Named> Roster<T> {
     {
         let mut roster = Roster::new(alloc);
         for item in items {
-            roster.push(item.copy()?)?;
+            roster.push_copy(item)?;
         }
         Ok(roster)
     }
@@ -152,7 +162,7 @@ impl<T: Named> Roster<T> {
     {
         let mut copy = Roster::new(*self.entries.allocator());
         for at in 0..self.len() {
-            copy.push(self.get(at).copy()?)?;
+            copy.push_copy(self.get(at))?;
         }
         Ok(copy)
     }

@@ -21,7 +21,7 @@ invariant_of-self-2 c =
     grind (arith, common_steps) in
     let order : c.push-2.new.self.items ≡ m.order ++ length m.criteria ∷ [] = search rules in
     let criteria : c.push.new.self ≡ m.criteria ++ c.args.criterion ∷ [] = search rules in
-    let weighting : c.grow.new.self ≡ grown m.weighting = c.in_ok-grow.ensures.ok ∙ ap grown c.in_ok-weighting.ensures in
+    let weighting : c.in_ok-weighting.weighting ≡ grown m.weighting = c.in_ok-weighting.ensures in
     subst IsModel (λ i. record {
       options = m.options;
       criteria = sym criteria i;
