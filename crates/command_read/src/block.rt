@@ -7,7 +7,7 @@ use frac128::List;
 use std::alloc::Global;
 
 /// The block that was read behind a line.
-#[derive(Clone, Copy, Debug)]
+#[derive(Clone, Copy)]
 pub enum Block<'a> {
     /// The line takes none.
     Absent,
@@ -20,7 +20,7 @@ pub enum Block<'a> {
 }
 
 /// The block of a command.
-#[derive(Debug, Drop)]
+#[derive(Drop)]
 pub enum Held {
     /// Its lines, each with a newline.
     Whole(List<u8>),

@@ -6,7 +6,7 @@ use model_core::Name;
 
 /// What a session can be asked for: a variant for each command, named by its word, with what follows that word. What a
 /// variant holds is what its line must have: a type keeps each fact that a session rests on.
-#[derive(Debug, Drop)]
+#[derive(Drop)]
 pub enum Command {
     Load(Held),
     Option(Name),
@@ -62,7 +62,7 @@ pub enum Command {
 }
 
 /// A line as a session takes it.
-#[derive(Debug, Drop)]
+#[derive(Drop)]
 pub enum Parsed {
     /// It has no words, or begins with `#`.
     Nothing,

@@ -1,9 +1,10 @@
 //! The forms of the commands: what may follow a command's word.
-ghost use Rattle.std.specs.Prelude.{◌≡◌, ◌∷◌, [], MatchResult};
+ghost use Rattle.std.specs.Prelude.{◌≡◌, ◌∷◌, [], ℕ, List, MatchResult, Ok};
 ghost use Rattle.command_read.specs.Words.{words};
 ghost use Rattle.command_read.specs.Blocks.{held_of};
 ghost use Rattle.command_read.specs.declared.block.Held.{Held};
-ghost use Rattle.command_read.specs.Refusals.{Gives, Sees};
+ghost use Rattle.command_read.specs.declared.verb.Verb.TheVariants.{Load};
+ghost use Rattle.command_read.specs.Refusals.{Gives, Sees, Fails};
 ghost use Rattle.command_read.specs.Forms.{no_word, one_word, two_words, three_words, four_words, one_name, two_names, three_names, criterion, judge, weigh_order, weigh, reach_of, fits, group, export, form};
 
 use crate::argument::{name, names, new_name, range, reach, values};
@@ -26,81 +27,126 @@ pub(crate) fn command(
     ensures { Gives result (form verb (words text.now) (held_of block.entry)) }
 {
     match verb {
-        Verb::Load => {
-            no_word(text)?;
-            Ok(Command::Load(Held::of(alloc, block)?))
-        }
-        Verb::Option => Ok(Command::Option(one_name(alloc, text)?)),
-        Verb::DropOption => Ok(Command::DropOption(one_name(alloc, text)?)),
+        Verb::Load => load(alloc, text, block),
+        Verb::Option => one(alloc, text, Command::Option),
+        Verb::DropOption => one(alloc, text, Command::DropOption),
         Verb::Criterion => criterion(alloc, text),
-        Verb::DropCriterion => Ok(Command::DropCriterion(one_name(alloc, text)?)),
-        Verb::Refs => {
-            let (x, y, z) = three_names(alloc, text)?;
-            Ok(Command::Refs(x, y, z))
-        }
+        Verb::DropCriterion => one(alloc, text, Command::DropCriterion),
+        Verb::Refs => three(alloc, text, Command::Refs),
         Verb::Judge => judge(alloc, text),
-        Verb::Unjudge => {
-            let (x, y, z) = three_names(alloc, text)?;
-            Ok(Command::Unjudge(x, y, z))
-        }
-        Verb::Perform => {
-            let (x, y, z) = three_names(alloc, text)?;
-            Ok(Command::Perform(x, y, z))
-        }
+        Verb::Unjudge => three(alloc, text, Command::Unjudge),
+        Verb::Perform => three(alloc, text, Command::Perform),
         Verb::WeighOrder => weigh_order(alloc, text),
         Verb::Weigh => weigh(alloc, text),
-        Verb::Unweigh => {
-            let (x, y) = two_names(alloc, text)?;
-            Ok(Command::Unweigh(x, y))
-        }
+        Verb::Unweigh => two(alloc, text, Command::Unweigh),
         Verb::Reach => reach_of(alloc, text),
-        Verb::Import => {
-            let x = one_name(alloc, text)?;
-            Ok(Command::Import(x, Held::of(alloc, block)?))
-        }
-        Verb::Undo => no_word(text).map(|()| Command::Undo),
-        Verb::Matrix => Ok(Command::Matrix(one_name(alloc, text)?)),
-        Verb::Rows => Ok(Command::Rows(one_name(alloc, text)?)),
+        Verb::Import => one_and_block(alloc, text, block, Command::Import),
+        Verb::Undo => alone(text, Command::Undo),
+        Verb::Matrix => one(alloc, text, Command::Matrix),
+        Verb::Rows => one(alloc, text, Command::Rows),
         Verb::Fits => fits(alloc, text),
-        Verb::Scale => Ok(Command::Scale(one_name(alloc, text)?)),
-        Verb::Cert => Ok(Command::Cert(one_name(alloc, text)?)),
-        Verb::Verify => {
-            let x = one_name(alloc, text)?;
-            Ok(Command::Verify(x, Held::of(alloc, block)?))
-        }
-        Verb::Repairs => Ok(Command::Repairs(one_name(alloc, text)?)),
-        Verb::Anchored => Ok(Command::Anchored(one_name(alloc, text)?)),
-        Verb::Slack => {
-            let (x, y) = two_names(alloc, text)?;
-            Ok(Command::Slack(x, y))
-        }
-        Verb::Weights => no_word(text).map(|()| Command::Weights),
-        Verb::Wcert => no_word(text).map(|()| Command::Wcert),
-        Verb::Wrepairs => no_word(text).map(|()| Command::Wrepairs),
-        Verb::Scores => no_word(text).map(|()| Command::Scores),
-        Verb::Dominance => {
-            let (x, y) = two_names(alloc, text)?;
-            Ok(Command::Dominance(x, y))
-        }
-        Verb::Dcert => {
-            let (x, y) = two_names(alloc, text)?;
-            Ok(Command::Dcert(x, y))
-        }
-        Verb::Dominances => no_word(text).map(|()| Command::Dominances),
+        Verb::Scale => one(alloc, text, Command::Scale),
+        Verb::Cert => one(alloc, text, Command::Cert),
+        Verb::Verify => one_and_block(alloc, text, block, Command::Verify),
+        Verb::Repairs => one(alloc, text, Command::Repairs),
+        Verb::Anchored => one(alloc, text, Command::Anchored),
+        Verb::Slack => two(alloc, text, Command::Slack),
+        Verb::Weights => alone(text, Command::Weights),
+        Verb::Wcert => alone(text, Command::Wcert),
+        Verb::Wrepairs => alone(text, Command::Wrepairs),
+        Verb::Scores => alone(text, Command::Scores),
+        Verb::Dominance => two(alloc, text, Command::Dominance),
+        Verb::Dcert => two(alloc, text, Command::Dcert),
+        Verb::Dominances => alone(text, Command::Dominances),
         Verb::Export => export(alloc, text),
-        Verb::Dump => no_word(text).map(|()| Command::Dump),
-        Verb::Stats => no_word(text).map(|()| Command::Stats),
-        Verb::Quit => no_word(text).map(|()| Command::Quit),
+        Verb::Dump => alone(text, Command::Dump),
+        Verb::Stats => alone(text, Command::Stats),
+        Verb::Quit => alone(text, Command::Quit),
         Verb::Group => group(alloc, text),
-        Verb::DropGroup => Ok(Command::DropGroup(one_name(alloc, text)?)),
-        Verb::Place => {
-            let (x, y) = two_names(alloc, text)?;
-            Ok(Command::Place(x, y))
-        }
-        Verb::Unplace => Ok(Command::Unplace(one_name(alloc, text)?)),
-        Verb::Groups => no_word(text).map(|()| Command::Groups),
-        Verb::Subtotals => Ok(Command::Subtotals(one_name(alloc, text)?)),
+        Verb::DropGroup => one(alloc, text, Command::DropGroup),
+        Verb::Place => two(alloc, text, Command::Place),
+        Verb::Unplace => one(alloc, text, Command::Unplace),
+        Verb::Groups => alone(text, Command::Groups),
+        Verb::Subtotals => one(alloc, text, Command::Subtotals),
     }
+}
+
+/// A command of nothing but its word.
+fn alone(text: &[u8], made: Command) -> Result<Command, Fault>
+    ensures { MatchResult result
+        (λ command. (no_word (words text.now) ≡ Ok tt) × (command ≡ made))
+        (λ fault. Fails fault (no_word (words text.now))) }
+{
+    no_word(text)?;
+    Ok(made)
+}
+
+/// A command of one name.
+fn one<F: FnOnce(Name) -> Command>(alloc: Global, text: &[u8], make: F) -> Result<Command, Fault>
+    requires { F.IsAlwaysCallable make }
+    ensures { MatchResult result
+        (λ command. (x : List ℕ) × (one_name (words text.now) ≡ Ok x) × F.post make x command)
+        (λ fault. Fails fault (one_name (words text.now))) }
+{
+    Ok(make(one_name(alloc, text)?))
+}
+
+/// A command of two names.
+fn two<F: FnOnce(Name, Name) -> Command>(
+    alloc: Global,
+    text: &[u8],
+    make: F,
+) -> Result<Command, Fault>
+    requires { F.IsAlwaysCallable make }
+    ensures { MatchResult result
+        (λ command. (x y : List ℕ) × (two_names (words text.now) ≡ Ok (x, y))
+        × F.post make x y command)
+        (λ fault. Fails fault (two_names (words text.now))) }
+{
+    let (x, y) = two_names(alloc, text)?;
+    Ok(make(x, y))
+}
+
+/// A command of three names.
+fn three<F: FnOnce(Name, Name, Name) -> Command>(
+    alloc: Global,
+    text: &[u8],
+    make: F,
+) -> Result<Command, Fault>
+    requires { F.IsAlwaysCallable make }
+    ensures { MatchResult result
+        (λ command. (x y z : List ℕ) × (three_names (words text.now) ≡ Ok (x, y, z))
+        × F.post make x y z command)
+        (λ fault. Fails fault (three_names (words text.now))) }
+{
+    let (x, y, z) = three_names(alloc, text)?;
+    Ok(make(x, y, z))
+}
+
+/// `load`, and its block.
+#[tactic(auto, unfolding(crate::specs::Forms::form))]
+fn load(alloc: Global, text: &[u8], block: Block<'_>) -> Result<Command, Fault>
+    ensures { Gives result (form Load (words text.now) (held_of block.entry)) }
+{
+    no_word(text)?;
+    Ok(Command::Load(Held::of(alloc, block)?))
+}
+
+/// A command of a name and a block.
+fn one_and_block<F: FnOnce(Name, Held) -> Command>(
+    alloc: Global,
+    text: &[u8],
+    block: Block<'_>,
+    make: F,
+) -> Result<Command, Fault>
+    requires { F.IsAlwaysCallable make }
+    ensures { MatchResult result
+        (λ command. (x : List ℕ) × (one_name (words text.now) ≡ Ok x)
+        × F.post make x (held_of block.entry) command)
+        (λ fault. Fails fault (one_name (words text.now))) }
+{
+    let x = one_name(alloc, text)?;
+    Ok(make(x, Held::of(alloc, block)?))
 }
 
 /// `criterion CRIT EL EL` and more EL.
@@ -195,15 +241,13 @@ fn export(alloc: Global, text: &[u8]) -> Result<Command, Fault>
 {
     let (what, text) = next_word(text)?;
     if what == b"matrix".as_slice() {
-        Ok(Command::ExportMatrix(one_name(alloc, text)?))
+        one(alloc, text, Command::ExportMatrix)
     } else if what == b"anchored".as_slice() {
-        Ok(Command::ExportAnchored(one_name(alloc, text)?))
+        one(alloc, text, Command::ExportAnchored)
     } else if what == b"weights".as_slice() {
-        no_word(text)?;
-        Ok(Command::ExportWeights)
+        alone(text, Command::ExportWeights)
     } else if what == b"scores".as_slice() {
-        no_word(text)?;
-        Ok(Command::ExportScores)
+        alone(text, Command::ExportScores)
     } else {
         Err(Fault::Refused(Refusal::WrongCount))
     }

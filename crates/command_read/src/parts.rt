@@ -9,7 +9,7 @@ use model_core::Name;
 use std::marker::Model;
 
 /// The name of a new criterion: neither `none` nor `weighting`. It is seen as its bytes.
-#[derive(Debug, Drop)]
+#[derive(Drop)]
 pub struct NewName {
     name: Name,
 }
@@ -44,7 +44,7 @@ impl NewName {
 }
 
 /// Names, as many as `LEAST` or more. They are seen as their list.
-#[derive(Debug, Drop)]
+#[derive(Drop)]
 pub struct Names<const LEAST: usize> {
     names: Vec<Name>,
 }
@@ -78,7 +78,7 @@ impl<const LEAST: usize> Names<LEAST> {
 }
 
 /// The values of a scale: one or more, the last of them 0. They are seen as their list.
-#[derive(Debug, Drop)]
+#[derive(Drop)]
 pub struct Values {
     values: Vec<Frac>,
 }
@@ -114,7 +114,7 @@ impl Values {
 }
 
 /// A reach that a criterion may have. It is seen as its number.
-#[derive(Debug, Drop)]
+#[derive(Drop)]
 pub struct Reach {
     reach: u32,
 }

@@ -6,7 +6,7 @@ ghost use Rattle.command_read.specs.declared.refusal.Fault.TheVariants.{NoMemory
 use std::alloc::{AllocError, AllocFailed};
 
 /// What is wrong with a line that is no command: the first in this order.
-#[derive(Clone, Copy, Debug, PartialEq, Eq)]
+#[derive(Clone, Copy)]
 pub(crate) enum Refusal {
     NotUtf8,
     UnknownCommand,
@@ -33,7 +33,7 @@ impl Refusal {
 }
 
 /// Why a line gave no command.
-#[derive(Debug, Drop)]
+#[derive(Drop)]
 pub(crate) enum Fault {
     Refused(Refusal),
     NoMemory,

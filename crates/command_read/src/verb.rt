@@ -5,7 +5,7 @@ ghost use Rattle.command_read.specs.Verbs.{verb_of};
 use word_table::commands;
 
 /// Which command a line asks for, by its first word.
-#[derive(Clone, Copy, Debug, PartialEq, Eq)]
+#[derive(Clone, Copy)]
 pub(crate) enum Verb {
     Load,
     Option,
