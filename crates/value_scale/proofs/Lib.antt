@@ -2,6 +2,7 @@ pub mod AnchorLaws
 pub mod AnchorLemmas
 pub mod AnswerLemmas
 pub mod BasicLemmas
+pub mod ChainLemmas
 pub mod DecidedLemmas
 pub mod EachLemmas
 pub mod GapLemmas

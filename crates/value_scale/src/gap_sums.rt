@@ -11,7 +11,6 @@ use frac128::Frac;
 use std::alloc::Global;
 
 // The bottom element's 0 and the heights of those above it, from the bottom upwards.
-#[tactic(auto, unfolding(crate::specs::GapSums::checked_heights, crate::specs::GapSums::checked_column))]
 fn heights(alloc: Global, gaps: &[Frac]) -> Result<Vec<Frac>, ScaleFault>
     ensures { Gives FaultSays (λ v. v.items) (checked_column gaps.now) result }
 {
