@@ -1,10 +1,10 @@
 -- The closed problem of a criterion is a problem: one number for each gap and for the room, each in range.
-use Rattle.std.proofs.Common.{◌≡◌, ◌≢◌, ◌⊎◌, inl, inr, ℕ, zero, suc, ◌+◌, ◌-◌, ◌<◌, ◌≤◌, ℤ, pos, negsuc, neg_ℤ, ◌≤ℤ◌, List, [], ◌∷◌, ◌++◌, length, replicate, All, ◌∙◌, arith, unsigned_abs}
+use Rattle.std.proofs.Common.{◌≡◌, ◌≢◌, ◌⊎◌, inl, inr, ℕ, zero, suc, ◌+◌, ◌-◌, ◌<◌, ◌≤◌, ℤ, pos, negsuc, neg_ℤ, ◌≤ℤ◌, List, [], ◌∷◌, ◌++◌, length, map, replicate, All, ap, ap₂, ◌∙◌, arith, unsigned_abs}
 use Rattle.std.proofs.lemmas.Bool.{cases_lt, lt-ltb, le-ltb}
-use Rattle.std.proofs.lemmas.List.{length-append, length-replicate}
+use Rattle.std.proofs.lemmas.List.{append_assoc, length-append, length-replicate}
 use Rattle.std.proofs.lemmas.List.Elements.{All-nil, All-cons, All-append, All-replicate}
 use Rattle.frac128.specs.Range.{IsInRange}
-use Rattle.frac128.specs.Problem.{IsRow}
+use Rattle.frac128.specs.Problem.{IsRow, problem_of}
 use Rattle.frac128.specs.declared.problem.Row.{Row}
 use Rattle.integers.specs.Vector.{AreNonNegative}
 use Rattle.integers.proofs.Laws.{lin}
@@ -14,7 +14,7 @@ use Rattle.judgement_matrix.specs.declared.tag.Tag.{Tag}
 use Rattle.judgement_matrix.specs.declared.tag.Tag.TheVariants.{Lower, Zero, Cross, Order}
 use Rattle.lp_macbeth.specs.Gaps.{gap_coefs, opposite}
 use Rattle.lp_macbeth.specs.Rows.{row_of}
-use Rattle.lp_macbeth.specs.Closed.{closed_row_of, anchor_up, anchor_down, reach_up, reach_down, outer_coefs, closed_cost}
+use Rattle.lp_macbeth.specs.Closed.{closed_tags, closed_problem_of, closed_row_of, anchor_up, anchor_down, reach_up, reach_down, outer_coefs, closed_cost}
 use Rattle.lp_macbeth.proofs.CoefLemmas.{length-gap_coefs, length-opposite, length-cross_coefs}
 use Rattle.lp_macbeth.proofs.RangeLemmas.{small_in_range, gap_coefs_in_range, opposite_in_range, cross_coefs_in_range}
 use Rattle.lp_macbeth.proofs.ScaleLemmas.{gap_coefs_nonneg}
@@ -128,3 +128,17 @@ IsCost-closed n a b apart ha hb = by_order (cases_lt a b)
         rw (le-ltb a b g) (costs_with_room n (outer_coefs n b a) (pos 1) (omega arith) (length-outer_coefs n b a in_n)
         (copies_keep (λ z. pos 0 ≤ℤ z) (n - a) (a - b) (b - 1) (pos 1) (pos 0) (omega (arith, lin)) (omega (arith, lin)))
         (copies_keep IsInRange (n - a) (a - b) (b - 1) (pos 1) (pos 0) one zero_in_range) (omega (arith, lin)) one)
+
+-- ---- the problem, of the parts that the code makes
+
+pub closed_problem_is : (m : Judgements) (good neutral reach a b n : ℕ) (cost : List ℤ) (compared anchored rows : List Row) → n ≡ m.size
+    → cost ≡ closed_cost n a b → compared ≡ map (closed_row_of m) (closed_tags m)
+    → anchored ≡ compared ++ anchor_up n good neutral ∷ anchor_down n good neutral ∷ [] → rows ≡ anchored ++ reach_up n reach ∷ reach_down n reach ∷ []
+    → problem_of n cost rows ≡ closed_problem_of m good neutral reach a b
+closed_problem_is m good neutral reach a b n cost compared anchored rows size costs pairs anchors reaches =
+    let all : List Row = map (closed_row_of m) (closed_tags m) in
+    let made : rows ≡ all ++ anchor_up n good neutral ∷ anchor_down n good neutral ∷ reach_up n reach ∷ reach_down n reach ∷ [] =
+    reaches ∙ ap (λ l. l ++ reach_up n reach ∷ reach_down n reach ∷ []) (anchors ∙ ap (λ l. l ++ anchor_up n good neutral ∷ anchor_down n good neutral ∷ []) pairs)
+    ∙ append_assoc all (anchor_up n good neutral ∷ anchor_down n good neutral ∷ []) (reach_up n reach ∷ reach_down n reach ∷ []) in
+    ap₂ (problem_of n) costs made
+    ∙ ap (λ s. problem_of s (closed_cost s a b) (all ++ anchor_up s good neutral ∷ anchor_down s good neutral ∷ reach_up s reach ∷ reach_down s reach ∷ [])) size

@@ -1,3 +1,4 @@
+pub mod LoopLemmas
 pub mod GapLemmas
 pub mod OrderLemmas
 pub mod CoefLemmas
@@ -17,6 +18,7 @@ pub mod WeightingRowLemmas
 pub mod LeastGapLemmas
 pub mod WeightSumLemmas
 pub mod CostLemmas
+pub mod CostLoopLemmas
 pub mod WeightingLemmas
 pub mod ThresholdRowLemmas
 pub mod PassLemmas
@@ -24,4 +26,5 @@ pub mod WeightLemmas
 pub mod RowSumLemmas
 pub mod OwnRows
 pub mod CarryLemmas
+pub mod TranslationLoopLemmas
 pub mod ThresholdProblemLemmas

@@ -1,10 +1,11 @@
 -- Lists of pairs: each of them, and a loop's step.
+use Rattle.std.specs.Prelude.{nat_lt}
 use Rattle.std.specs.List.{AllByRecursion, range_with_len}
-use Rattle.std.proofs.Common.{◌≡◌, ℕ, suc, ◌+◌, ◌-◌, ◌<◌, List, [], ◌∷◌, All, ap, arith}
-use Rattle.std.proofs.lemmas.List.Elements.{All-nil, All-cons, All-head, All-tail}
-use Rattle.judgement_matrix.specs.Matrix.{IsPair, pairs}
+use Rattle.std.proofs.Common.{◌≡◌, ℕ, suc, ◌+◌, ◌-◌, ◌<◌, List, [], ◌∷◌, ◌++◌, All, ap, arith}
+use Rattle.std.proofs.lemmas.List.Elements.{All-nil, All-cons, All-head, All-tail, filter-append}
+use Rattle.judgement_matrix.specs.Matrix.{Judgements, IsPair, pairs, range_at}
 use Rattle.judgement_matrix.proofs.EveryLemmas.{every-pairs}
-use Rattle.lp_macbeth.specs.Pairs.{ArePairs}
+use Rattle.lp_macbeth.specs.Pairs.{ArePairs, under}
 
 -- ---- what holds of each
 
@@ -28,3 +29,8 @@ pub range_with_len-next : (a n : ℕ) → a < n → range_with_len a (n - a) ≡
 range_with_len-next a n h =
     let size : n - a ≡ suc (n - (a + 1)) = omega arith in
     ap (range_with_len a) size
+
+-- ---- the pairs below a category
+
+pub under-append : (m : Judgements) (category : ℕ) (ps qs : List (ℕ × ℕ)) → under m (ps ++ qs) category ≡ under m ps category ++ under m qs category
+under-append m category ps qs = filter-append (λ (pair : ℕ × ℕ). nat_lt (range_at m pair.0 pair.1).hi category) ps qs

@@ -6,8 +6,8 @@ use Rattle.std.proofs.lemmas.Bool.{cases_eq, cases_lt, le-leb, lt-ltb, le-ltb}
 use Rattle.std.proofs.lemmas.Grind.{common_steps}
 use Rattle.std.proofs.Math.Seq.{drop-cons}
 use Rattle.std.proofs.lemmas.List.{get_or_default}
-use Rattle.integers.proofs.Loops.{push_next}
-use Rattle.lp_macbeth.specs.Passing.{left_after, rests_after, passed, lost}
+use Rattle.integers.proofs.Loops.{push_next, join_next}
+use Rattle.lp_macbeth.specs.Passing.{left_after, rests_after, passed, lost, lefts, takings}
 
 -- the sum of the weights from a category on
 abbrev pub from : ℕ → List (ℕ × ℕ) → ℕ
@@ -266,3 +266,54 @@ lost_skip lo k xs ys x done all now below same first high so_far stays =
     let second : y ≡ get_or ys k y = sym (get_or_default ys k y (0, 0) (omega (arith, below, same))) in
     let next = rw fails at (lost-drop lo k xs ys x y below same first second) in
     ap₂ (λ a b. a ++ b) stays (sym next) ∙ so_far
+
+-- ---- amounts in a loop: what is left of one is kept where its category is 1 or above
+
+pub kept_take : (ats xs after : List (ℕ × ℕ)) (i : ℕ) (at : ℕ × ℕ) (left : ℕ) (done all now : List ℕ) → drop i ats ≡ at ∷ drop (i + 1) ats
+    → (left, after) ≡ passed at.0 (at.1, xs) → 1 ≤ at.0 → done ++ lefts (drop i ats) xs ≡ all → now ≡ done ++ left ∷ []
+    → now ++ lefts (drop (i + 1) ats) after ≡ all
+kept_take ats xs after i at left done all now first turn low so_far made =
+    let counts : nat_le 1 at.0 ≡ true = le-leb 1 at.0 low in
+    let split : lefts (at ∷ drop (i + 1) ats) xs ≡ left ∷ lefts (drop (i + 1) ats) after =
+    rw counts (ap (λ s. s.0 ∷ lefts (drop (i + 1) ats) s.1) (sym turn)) in
+    push_next done all (lefts (drop i ats) xs) (lefts (drop (i + 1) ats) after) now left so_far (ap (λ l. lefts l xs) first ∙ split) made
+
+pub kept_skip : (ats xs after : List (ℕ × ℕ)) (i : ℕ) (at : ℕ × ℕ) (left : ℕ) (done all now : List ℕ) → drop i ats ≡ at ∷ drop (i + 1) ats
+    → (left, after) ≡ passed at.0 (at.1, xs) → at.0 < 1 → done ++ lefts (drop i ats) xs ≡ all → now ≡ done
+    → now ++ lefts (drop (i + 1) ats) after ≡ all
+kept_skip ats xs after i at left done all now first turn low so_far stays =
+    let none : nat_le 1 at.0 ≡ false = grind (arith, common_steps) in
+    let rest : lefts (at ∷ drop (i + 1) ats) xs ≡ lefts (drop (i + 1) ats) after =
+    rw none (ap (λ s. lefts (drop (i + 1) ats) s.1) (sym turn)) in
+    ap₂ (λ a b. a ++ b) stays (sym (ap (λ l. lefts l xs) first ∙ rest)) ∙ so_far
+
+-- and what it took off is added
+pub taken_next : (ats xs after : List (ℕ × ℕ)) (i : ℕ) (at : ℕ × ℕ) (left : ℕ) (done all now : List ℕ) → drop i ats ≡ at ∷ drop (i + 1) ats
+    → (left, after) ≡ passed at.0 (at.1, xs) → done ++ takings (drop i ats) xs ≡ all → now ≡ done ++ lost at.0 xs after
+    → now ++ takings (drop (i + 1) ats) after ≡ all
+taken_next ats xs after i at left done all now first turn so_far made =
+    join_next done all (takings (drop i ats) xs) (takings (drop (i + 1) ats) after) now (lost at.0 xs after) so_far
+    (ap (λ l. takings l xs) first ∙ ap (λ s. lost at.0 xs s.1 ++ takings (drop (i + 1) ats) s.1) (sym turn)) made
+
+-- ---- one category's weights in a loop
+
+pub same_category : (i h : ℕ) → i ≡ h → (i == h) ≡ true
+same_category i h e = grind (arith, common_steps)
+
+pub other_category : (i h : ℕ) → i ≢ h → (i == h) ≡ false
+other_category i h ne = grind (arith, common_steps)
+
+-- what is left, and the weight: by whether it is of the category
+pub left_next : (h i a b : ℕ) (x : ℕ × ℕ) (t : Bool) (xs : List (ℕ × ℕ)) (all : ℕ) → drop i xs ≡ x ∷ drop (i + 1) xs → (x.0 == h) ≡ t
+    → b ≡ cond t (a - x.1) a → left_after h a (drop i xs) ≡ all → left_after h b (drop (i + 1) xs) ≡ all
+left_next h i a b x t xs all first of left so_far =
+    ap (λ z. left_after h z (drop (i + 1) xs)) (left ∙ ap (λ s. cond s (a - x.1) a) (sym of)) ∙ ap (left_after h a) (sym first) ∙ so_far
+
+pub rests_next : (h i a b y : ℕ) (x : ℕ × ℕ) (t : Bool) (xs done all now : List (ℕ × ℕ)) → drop i xs ≡ x ∷ drop (i + 1) xs → (x.0 == h) ≡ t
+    → b ≡ cond t (a - x.1) a → y ≡ cond t (x.1 - a) x.1 → done ++ rests_after h a (drop i xs) ≡ all → now ≡ done ++ (x.0, y) ∷ []
+    → now ++ rests_after h b (drop (i + 1) xs) ≡ all
+rests_next h i a b y x t xs done all now first of left rest so_far made =
+    push_next done all (rests_after h a (drop i xs)) (rests_after h b (drop (i + 1) xs)) now (x.0, y) so_far
+    (ap (rests_after h a) first
+    ∙ ap₂ (λ u v. (x.0, u) ∷ rests_after h v (drop (i + 1) xs)) (ap (λ s. cond s (x.1 - a) x.1) of ∙ sym rest) (ap (λ s. cond s (a - x.1) a) of ∙ sym left))
+    made

@@ -1,10 +1,12 @@
 -- The rows of a matrix are rows of a problem: one number for each gap, each number in range.
-use Rattle.std.proofs.Common.{◌≡◌, ℕ, ◌-◌, ◌≤◌, Bool, true, false, cond, ℤ, pos, negsuc, ◌-ℤ◌, ◌++◌, get_or, replicate, All, sym, subst, ◌∙◌, arith, unsigned_abs}
+use Rattle.std.proofs.Common.{◌≡◌, ℕ, ◌-◌, ◌≤◌, Bool, true, false, cond, ℤ, pos, negsuc, ◌-ℤ◌, ◌≤ℤ◌, List, ◌++◌, get_or, replicate, All, sym, subst, ◌∙◌, arith, unsigned_abs}
 use Rattle.std.specs.Prelude.{nat_le, nat_lt, ◌&&◌}
 use Rattle.std.proofs.lemmas.List.Elements.{All-append, All-replicate}
 use Rattle.frac128.specs.Range.{IsInRange}
-use Rattle.frac128.specs.Problem.{IsRow}
-use Rattle.std.proofs.lemmas.List.{get_or_default}
+use Rattle.frac128.specs.Problem.{IsProblem, IsRow, problem_of}
+use Rattle.frac128.specs.declared.problem.Row.{Row}
+use Rattle.std.proofs.lemmas.List.{get_or_default, length-replicate}
+use Rattle.std.specs.Int.Signed.{le_z_yes}
 use Rattle.std.proofs.lemmas.Int.{ints}
 use Rattle.judgement_matrix.specs.Matrix.{IsPair}
 use Rattle.lp_macbeth.specs.Gaps.{gap_coefs, opposite}
@@ -70,3 +72,13 @@ IsRow-cross n p q x y lo hi left right low high = record {
   coefs_in_range = cross_coefs_in_range n p q x y left right;
   bound_in_range = small_in_range (pos lo -ℤ pos hi) (bound_in_range lo hi low high);
 }
+
+-- ---- a problem whose variables cost 1 each
+
+pub IsProblem-ones : (k : ℕ) (cost : List ℤ) (rows : List Row) → cost ≡ replicate k (pos 1) → All (IsRow k) rows → IsProblem (problem_of k cost rows)
+IsProblem-ones k cost rows is fit = subst (λ l. IsProblem (problem_of k l rows)) (sym is) (record {
+  one_each = length-replicate k (pos 1);
+  cost_nonneg = All-replicate (λ x. pos 0 ≤ℤ x) k (pos 1) (le_z_yes tt);
+  cost_in_range = All-replicate IsInRange k (pos 1) (small_in_range (pos 1) (omega arith));
+  rows_fit = fit;
+})

@@ -1,8 +1,8 @@
 -- Rows of Cross by their positions.
 use Rattle.std.specs.Prelude.{Some, slice_get, option_map, sum}
 use Rattle.std.specs.List.{flat_map}
-use Rattle.std.proofs.Common.{◌≡◌, ℕ, ◌+◌, ◌<◌, List, [], ◌∷◌, ◌++◌, length, get_or, take, map, sym, ap, subst, ◌∙◌, arith}
-use Rattle.std.proofs.lemmas.List.{get_or-map, length-map, map_more, take-map}
+use Rattle.std.proofs.Common.{◌≡◌, ℕ, ◌+◌, ◌<◌, List, [], ◌∷◌, ◌++◌, length, get_or, take, map, sym, ap, ap₂, subst, ◌∙◌, arith}
+use Rattle.std.proofs.lemmas.List.{get_or-map, length-map, map-append, map_more, take-map}
 use Rattle.std.proofs.lemmas.List.Concat.{length-flat_map, get_or-flat_map}
 use Rattle.std.proofs.lemmas.List.Sums.{sum-map}
 use Rattle.std.proofs.lemmas.Option.{slice_get-get_or, slice_get-map}
@@ -95,3 +95,12 @@ count_next m ps i done now rights all inside below invariant pushed =
     ∙ ap (λ k. map (λ (left : ℕ × ℕ). length (cross_rows_under m left ps)) (take i ps) ++ k ∷ [])
     (length-cross_rows_under m (get_or ps i (0, 0)) rights below ∙ ap (λ l. length (cross_rows_under m (get_or ps i (0, 0)) l)) (sym all))
     ∙ sym (map_more (λ (left : ℕ × ℕ). length (cross_rows_under m left ps)) ps i (0, 0) inside)
+
+-- ---- tags by their positions
+
+-- one more
+pub tags_next : (rows : List Tag) (positions : List ℕ) (i : ℕ) (tag : Tag) (done now : List Tag) → i < length positions
+    → slice_get rows (get_or positions i 0) ≡ Some tag → map Some done ≡ map (slice_get rows) (take i positions) → now ≡ done ++ tag ∷ []
+    → map Some now ≡ map (slice_get rows) (take (i + 1) positions)
+tags_next rows positions i tag done now below is so_far made =
+    ap (map Some) made ∙ map-append Some done (tag ∷ []) ∙ ap₂ (λ a b. a ++ b ∷ []) so_far (sym is) ∙ sym (map_more (slice_get rows) positions i 0 below)

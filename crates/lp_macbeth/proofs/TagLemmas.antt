@@ -31,11 +31,6 @@ zero_rows_of-append m ps qs =
     ∙ map-append (λ (pair : ℕ × ℕ). Zero pair.0 pair.1) (filter (λ (pair : ℕ × ℕ). (range_at m pair.0 pair.1).hi == 0) ps)
     (filter (λ (pair : ℕ × ℕ). (range_at m pair.0 pair.1).hi == 0) qs)
 
--- for the code's loops
-pub ruleset lower_joins = (lower_rows_of-append)
-
-pub ruleset zero_joins = (zero_rows_of-append)
-
 -- ---- each tag is one of the matrix's elements
 
 -- what holds of each pair holds of those that pass a test

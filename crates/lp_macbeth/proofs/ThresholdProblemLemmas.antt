@@ -1,9 +1,10 @@
 -- The threshold problem of a matrix is a linear problem: its numbers are as many as they should be, and in range.
-use Rattle.std.proofs.Common.{◌+◌, ◌-◌, ◌≤◌, pos, ◌≤ℤ◌, replicate, ◌∙◌, arith}
+use Rattle.std.proofs.Common.{◌≡◌, ℕ, ◌+◌, ◌-◌, ℤ, pos, ◌≤ℤ◌, List, ◌++◌, map, replicate, ap, ap₂, ◌∙◌, arith}
 use Rattle.std.specs.Int.Signed.{le_z_yes}
 use Rattle.std.proofs.lemmas.List.{length-append, length-replicate}
 use Rattle.std.proofs.lemmas.List.Elements.{All-append, All-replicate, All-map, All-weaker}
-use Rattle.frac128.specs.Problem.{IsProblem, IsRow}
+use Rattle.frac128.specs.Problem.{IsProblem, IsRow, problem_of}
+use Rattle.frac128.specs.declared.problem.Row.{Row}
 use Rattle.frac128.specs.Range.{IsInRange}
 use Rattle.judgement_matrix.specs.Matrix.{Judgements, IsMatrix, range_at}
 use Rattle.lp_macbeth.specs.declared.threshold_tags.ThresholdTag.{ThresholdTag}
@@ -36,3 +37,11 @@ IsProblem-threshold_problem_of m is =
       rows_fit = All-map (IsRow (m.size - 1 + 5)) (threshold_row_of m) (threshold_rows m)
           (All-weaker (IsThresholdTagOf m) (λ tag. IsRow (m.size - 1 + 5) (threshold_row_of m tag)) (row_fits m is) (threshold_rows m) (All-threshold_rows m));
     }
+
+-- the parts that the code makes
+pub threshold_problem_is : (m : Judgements) (n : ℕ) (cost : List ℤ) (rows : List Row) → n ≡ m.size
+    → cost ≡ replicate (n - 1) (pos 1) ++ replicate 5 (pos 0) → rows ≡ map (threshold_row_of m) (threshold_rows m)
+    → problem_of (n - 1 + 5) cost rows ≡ threshold_problem_of m
+threshold_problem_is m n cost rows size costs are =
+    ap₂ (problem_of (n - 1 + 5)) costs are
+    ∙ ap (λ s. problem_of (s - 1 + 5) (replicate (s - 1) (pos 1) ++ replicate 5 (pos 0)) (map (threshold_row_of m) (threshold_rows m))) size

@@ -34,13 +34,6 @@ pub below_rows_of-append : (m : Judgements) (ps qs : List (ℕ × ℕ)) → belo
 below_rows_of-append m ps qs = ap (map (λ (pair : ℕ × ℕ). Below pair.0 pair.1)) (filter-append (ends m) ps qs)
     ∙ map-append (λ (pair : ℕ × ℕ). Below pair.0 pair.1) (filter (ends m) ps) (filter (ends m) qs)
 
--- for the code's loops
-pub ruleset at_joins = (at_rows_of-append)
-
-pub ruleset equal_joins = (equal_rows_of-append)
-
-pub ruleset below_joins = (below_rows_of-append)
-
 -- ---- each tag is one of the matrix's
 
 -- the tests, read

@@ -1,5 +1,5 @@
 -- The closed problem of a weighting is a problem: one number for each gap, each in range.
-use Rattle.std.proofs.Common.{◌≡◌, ℕ, zero, suc, ◌+◌, ◌-◌, ◌<◌, ◌≤◌, ℤ, pos, negsuc, ◌*ℤ◌, List, [], ◌∷◌, ◌++◌, length, append-nil, All, refl, sym, ap, subst, ◌∙◌, arith}
+use Rattle.std.proofs.Common.{◌≡◌, ℕ, zero, suc, ◌+◌, ◌-◌, ◌<◌, ◌≤◌, ℤ, pos, negsuc, neg_ℤ, ◌*ℤ◌, List, [], ◌∷◌, ◌++◌, length, append-nil, All, refl, sym, ap, subst, ◌∙◌, arith}
 use Rattle.std.proofs.lemmas.List.Elements.{All-nil, All-cons}
 use Rattle.frac128.specs.Range.{IsInRange}
 use Rattle.frac128.specs.Problem.{IsRow}
@@ -74,3 +74,8 @@ pub opposite_falling_done : (i n : ℕ) (items all : List ℤ) → n ≤ i → i
 opposite_falling_done i n items all past invariant =
     let none : n - i ≡ 0 = omega arith in
     sym (append-nil items) ∙ ap (λ k. items ++ opposite (falling k)) (sym none) ∙ invariant
+
+-- the next number with the other sign is added
+pub opposite_falling-next : (i n : ℕ) (z : ℤ) → i < n → z ≡ neg_ℤ (pos (n - i)) → opposite (falling (n - i)) ≡ z ∷ opposite (falling (n - (i + 1)))
+opposite_falling-next i n z h is =
+    ap opposite (falling-next i n h) ∙ ap (λ w. w ∷ opposite (falling (n - (i + 1)))) (minus_one-*ℤ (pos (n - i)) ∙ sym is)

@@ -49,7 +49,6 @@ pub(crate) fn closed_tags(alloc: Global, matrix: &Matrix) -> Result<Vec<Tag>, No
 }
 
 /// Adds the pairs whose ranges begin at 1 or above.
-#[tactic(auto, using(crate::proofs::TagLemmas::lower_joins))]
 pub(crate) fn push_lower(
     tags: &mut Vec<Tag>,
     matrix: &Matrix,
@@ -78,7 +77,6 @@ fn push_lower_of(tags: &mut Vec<Tag>, matrix: &Matrix, pair: (u8, u8)) -> Result
 }
 
 /// Adds the pairs whose ranges are 0 alone.
-#[tactic(auto, using(crate::proofs::TagLemmas::zero_joins))]
 pub(crate) fn push_zero(
     tags: &mut Vec<Tag>,
     matrix: &Matrix,

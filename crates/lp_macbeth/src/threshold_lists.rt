@@ -26,7 +26,6 @@ pub(crate) fn threshold_tags(alloc: Global, matrix: &Matrix) -> Result<Vec<Thres
 }
 
 // Adds the pairs whose ranges begin at 1 or above.
-#[tactic(auto, using(crate::proofs::ThresholdTagLemmas::at_joins))]
 fn push_at(
     tags: &mut Vec<ThresholdTag>,
     matrix: &Matrix,
@@ -55,7 +54,6 @@ fn push_at_of(tags: &mut Vec<ThresholdTag>, matrix: &Matrix, pair: (u8, u8)) -> 
 }
 
 // Adds the pairs whose ranges are 0 alone.
-#[tactic(auto, using(crate::proofs::ThresholdTagLemmas::equal_joins))]
 fn push_equal(
     tags: &mut Vec<ThresholdTag>,
     matrix: &Matrix,
@@ -88,7 +86,6 @@ fn push_equal_of(
 }
 
 // Adds the pairs whose ranges end at 1 to 5.
-#[tactic(auto, using(crate::proofs::ThresholdTagLemmas::below_joins))]
 fn push_below(
     tags: &mut Vec<ThresholdTag>,
     matrix: &Matrix,

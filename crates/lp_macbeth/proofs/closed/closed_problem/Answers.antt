@@ -2,6 +2,9 @@ use Rattle.std.proofs.Common.{◌≡◌, ◌≤◌, ℕ, subst, sym, All, arith}
 use Rattle.frac128.specs.Problem.{IsRow}
 use Rattle.judgement_matrix.specs.Matrix.{IsPair}
 use Rattle.lp_macbeth.proofs.ClosedRowLemmas.{IsCost, IsCost-closed, anchors_fit, reaches_fit}
+use Rattle.std.proofs.Common.{◌++◌, ◌∙◌, map, ap}
+use Rattle.lp_macbeth.specs.Closed.{closed_row_of}
+use Rattle.lp_macbeth.proofs.ClosedRowLemmas.{closed_problem_is}
 use Rattle.lp_macbeth.proofs.closed.closed_problem.Goals as goal
 
 pub make-requires-2 : goal.make-requires-2
@@ -25,3 +28,13 @@ make-requires-2 c =
       cost_in_range = cost.in_range;
       rows_fit = subst (All (IsRow n)) (sym c.make.ensures) reached;
     }
+
+pub returns : goal.returns
+returns c =
+    let a = c.args in
+    let m = a.matrix.now in
+    let pairs = c.in_ok-push_compared.ensures.rows ∙ ap (λ l. l ++ map (closed_row_of m) c.as_slice.result.now) c.new-rows.ensures.items
+    ∙ ap (map (closed_row_of m)) (c.as_slice.ensures.value ∙ c.in_ok-tags.ensures.tags) in
+    c.make-2.ensures
+    ∙ closed_problem_is m a.good a.neutral a.reach a.a a.b c.size-n.result c.in_ok-cost.cost c.push_compared.new.rows.items c.push_anchors.new.rows.items
+    c.make.result c.size-n.ensures.value c.in_ok-cost.ensures pairs c.in_ok-push_anchors.ensures (c.make.ensures ∙ c.in_ok-push_reaches.ensures)

@@ -1,4 +1,4 @@
-use Rattle.std.proofs.Common.{◌≡◌, ◌∙◌, ◌<◌, ℕ, get_or, length, sum, ap, sym, subst, refl, List, arith}
+use Rattle.std.proofs.Common.{◌∙◌, ◌<◌, ℕ, get_or, length, sum, ap, sym, subst, refl, List, arith}
 use Rattle.judgement_matrix.specs.Matrix.{pairs}
 use Rattle.lp_macbeth.specs.Pairs.{ArePairs}
 use Rattle.lp_macbeth.proofs.PairLemmas.{ArePairs-pairs}

@@ -1,5 +1,5 @@
-use Rattle.std.proofs.Common.{◌≡◌, ◌∙◌, ◌<◌, ℕ, ap, arith}
-use Rattle.judgement_matrix.specs.Matrix.{pairs, range_at}
+use Rattle.std.proofs.Common.{◌≡◌, ◌∙◌, ◌<◌, ap, arith}
+use Rattle.judgement_matrix.specs.Matrix.{pairs}
 use Rattle.lp_macbeth.specs.Pairs.{under}
 use Rattle.lp_macbeth.proofs.TagLemmas.{rights_are}
 use Rattle.lp_macbeth.proofs.row_tags.pairs_below.Goals as goal
