@@ -4,9 +4,10 @@ use Rattle.std.specs.Result.{is_err, IsErr}
 use Rattle.std.proofs.Common.{◌≡◌, ℕ, ◌+◌, ◌<◌, ◌≤◌, ℤ, pos, ◌+ℤ◌, ◌*ℤ◌, List, [], ◌∷◌, ◌++◌, length, get_or, drop, append-nil, refl, sym, ap, subst, ◌∙◌, Result, Ok, Err}
 use Rattle.std.proofs.lemmas.List.{append_assoc, at_drop_all, get_or_default}
 use Rattle.integers.specs.Fraction.{Fraction}
+use Rattle.integers.specs.Divisibility.{gcd_of}
 use Rattle.frac128.specs.Checked.{◌>>=◌, checked_difference, Gives}
 use Rattle.frac128.specs.declared.number.TooWide.{TooWide}
-use Rattle.lp_macbeth.specs.ClosedWeighting.{in_order, checked_whole, checked_excesses, checked_numerators, checked_sums, checked_costs, FaultSays}
+use Rattle.lp_macbeth.specs.ClosedWeighting.{in_order, checked_whole, checked_excesses, checked_multiple, checked_numerators, checked_sums, checked_costs, FaultSays}
 use Rattle.lp_macbeth.specs.declared.weighting.WeightingFault.{WeightingFault}
 use Rattle.lp_macbeth.specs.declared.weighting.WeightingFault.TheVariants as fault
 use Rattle.lp_macbeth.proofs.LoopLemmas.{rest_next}
@@ -129,3 +130,11 @@ pub numerators_done : (l : ℤ) (es : List Fraction) (i : ℕ) (done : List ℤ)
 unfolding checked_numerators
 numerators_done l es i done all past so_far =
     sym so_far ∙ at_drop_all (λ zs. (checked_numerators l zs) >>= (λ others. Ok (done ++ others))) es i past ∙ ap (λ zs. Ok zs) (append-nil done)
+
+-- ---- the common multiple
+
+pub multiple_next : (l next : ℤ) (es : List Fraction) (i : ℕ) (e : Fraction) (all : Result ℤ TooWide) → drop i es ≡ e ∷ drop (i + 1) es
+    → Ok next ≡ checked_whole (int_div l (gcd_of l e.den) *ℤ e.den) → checked_multiple l (drop i es) ≡ all → checked_multiple next (drop (i + 1) es) ≡ all
+unfolding checked_multiple
+multiple_next l next es i e all first is so_far =
+    ap (λ r. r >>= (λ n. checked_multiple n (drop (i + 1) es))) is ∙ ap (checked_multiple l) (sym first) ∙ so_far

@@ -1,8 +1,9 @@
 -- Lists of pairs: each of them, and a loop's step.
 use Rattle.std.specs.Prelude.{nat_lt}
 use Rattle.std.specs.List.{AllByRecursion, range_with_len}
-use Rattle.std.proofs.Common.{◌≡◌, ℕ, suc, ◌+◌, ◌-◌, ◌<◌, List, [], ◌∷◌, ◌++◌, All, ap, arith}
+use Rattle.std.proofs.Common.{◌≡◌, ℕ, suc, ◌+◌, ◌-◌, ◌<◌, List, [], ◌∷◌, ◌++◌, All, sym, ap, ◌∙◌, arith, add-one}
 use Rattle.std.proofs.lemmas.List.Elements.{All-nil, All-cons, All-head, All-tail, filter-append}
+use Rattle.integers.specs.Counting.{numbers_from}
 use Rattle.judgement_matrix.specs.Matrix.{Judgements, IsPair, pairs, range_at}
 use Rattle.judgement_matrix.proofs.EveryLemmas.{every-pairs}
 use Rattle.lp_macbeth.specs.Pairs.{ArePairs, under}
@@ -34,3 +35,8 @@ range_with_len-next a n h =
 
 pub under-append : (m : Judgements) (category : ℕ) (ps qs : List (ℕ × ℕ)) → under m (ps ++ qs) category ≡ under m ps category ++ under m qs category
 under-append m category ps qs = filter-append (λ (pair : ℕ × ℕ). nat_lt (range_at m pair.0 pair.1).hi category) ps qs
+
+pub numbers_from-next : (a n : ℕ) → a < n → numbers_from a (n - a) ≡ a ∷ numbers_from (a + 1) (n - (a + 1))
+numbers_from-next a n h =
+    let size : n - a ≡ suc (n - (a + 1)) = omega arith in
+    ap (numbers_from a) size ∙ ap (λ b. a ∷ numbers_from b (n - (a + 1))) (sym (add-one a))

@@ -1,15 +1,17 @@
 -- Rows of Cross by their positions.
 use Rattle.std.specs.Prelude.{Some, slice_get, option_map, sum}
 use Rattle.std.specs.List.{flat_map}
-use Rattle.std.proofs.Common.{◌≡◌, ℕ, ◌+◌, ◌<◌, List, [], ◌∷◌, ◌++◌, length, get_or, take, map, sym, ap, ap₂, subst, ◌∙◌, arith}
-use Rattle.std.proofs.lemmas.List.{get_or-map, length-map, map-append, map_more, take-map}
+use Rattle.std.proofs.Common.{◌≡◌, ◌⊎◌, inl, inr, ℕ, ◌+◌, ◌-◌, ◌<◌, ◌≤◌, List, [], ◌∷◌, ◌++◌, length, get_or, take, drop, map, refl, sym, ap, ap₂, subst, ◌∙◌, arith}
+use Rattle.std.proofs.lemmas.List.{get_or-map, length-map, map-append, map_more, take-map, drop_all, length-append, get_or_append_left, get_or-append_right}
+use Rattle.std.proofs.lemmas.Bool.{cases_lt}
 use Rattle.std.proofs.lemmas.List.Concat.{length-flat_map, get_or-flat_map}
 use Rattle.std.proofs.lemmas.List.Sums.{sum-map}
 use Rattle.std.proofs.lemmas.Option.{slice_get-get_or, slice_get-map}
 use Rattle.judgement_matrix.specs.Matrix.{Judgements, pairs}
-use Rattle.judgement_matrix.specs.Rows.{cross_rows, cross_rows_under, cross_rows_of}
+use Rattle.judgement_matrix.specs.Rows.{lower_rows, zero_rows, cross_rows, cross_rows_under, cross_rows_of}
 use Rattle.judgement_matrix.specs.declared.tag.Tag.{Tag}
 use Rattle.judgement_matrix.specs.declared.tag.Tag.TheVariants.{Cross}
+use Rattle.lp_macbeth.specs.Rows.{judged_rows}
 use Rattle.lp_macbeth.specs.RowTags.{cross_counts, pairs_below}
 
 -- ---- rows of Cross
@@ -104,3 +106,39 @@ pub tags_next : (rows : List Tag) (positions : List ℕ) (i : ℕ) (tag : Tag) (
     → map Some now ≡ map (slice_get rows) (take (i + 1) positions)
 tags_next rows positions i tag done now below is so_far made =
     ap (map Some) made ∙ map-append Some done (tag ∷ []) ∙ ap₂ (λ a b. a ++ b ∷ []) so_far (sym is) ∙ sym (map_more (slice_get rows) positions i 0 below)
+
+-- ---- a row by the lists that it stands in
+
+-- among the tags of Lower and Zero
+pub single_at : (m : Judgements) (single : List Tag) (i : ℕ) (d : Tag) → single ≡ lower_rows m ++ zero_rows m → i < length single
+    → slice_get (judged_rows m) i ≡ Some (get_or single i d)
+single_at m single i d is within =
+    let all : judged_rows m ≡ single ++ cross_rows m = ap (λ l. l ++ cross_rows m) (sym is) in
+    ap (λ l. slice_get l i) all
+    ∙ slice_get-get_or (single ++ cross_rows m) i d (omega (arith, length-append single (cross_rows m)))
+    ∙ ap Some (get_or_append_left single (cross_rows m) d i within)
+
+-- behind them
+pub cross_within : (m : Judgements) (single : List Tag) (i : ℕ) → single ≡ lower_rows m ++ zero_rows m → length single ≤ i → i < length (judged_rows m)
+    → i - length single < length (cross_rows m)
+cross_within m single i is past row =
+    let all : judged_rows m ≡ single ++ cross_rows m = ap (λ l. l ++ cross_rows m) (sym is) in
+    omega (arith, ap length all, length-append single (cross_rows m))
+
+pub cross_after : (m : Judgements) (single : List Tag) (i : ℕ) → single ≡ lower_rows m ++ zero_rows m → length single ≤ i → i < length (judged_rows m)
+    → slice_get (judged_rows m) i ≡ slice_get (cross_rows m) (i - length single)
+cross_after m single i is past row =
+    let d : Tag = Cross 0 0 0 0 in
+    let all : judged_rows m ≡ single ++ cross_rows m = ap (λ l. l ++ cross_rows m) (sym is) in
+    slice_get-get_or (judged_rows m) i d row
+    ∙ ap Some (ap (λ l. get_or l i d) all ∙ get_or-append_right single (cross_rows m) (length single) i d refl past)
+    ∙ sym (slice_get-get_or (cross_rows m) (i - length single) d (cross_within m single i is past row))
+
+-- ---- parts of a length each
+
+-- a position in what is left is in one of its parts
+pub part_inside : (xs : List ℕ) (i k : ℕ) → k < sum (drop i xs) → i < length xs
+part_inside xs i k below = elim (cases_lt i (length xs)) [
+  | inl inside ↦ inside
+  | inr past ↦ absurd (let none : k < 0 = subst (λ l. k < sum l) (drop_all i xs past) below in omega arith)
+]

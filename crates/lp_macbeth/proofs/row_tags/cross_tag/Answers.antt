@@ -39,3 +39,8 @@ returns c =
     cross_at m place c.part_at-place.result.1 c.args.position (get_or c.as_slice-2.result.now place (0, 0))
     (get_or c.pairs_below-rights.result.now c.part_at-place.result.1 (0, 0)) c.as_slice.result.now c.pairs_below-rights.result.now
     counts c.pairs_below-rights.ensures c.requires.row inside within first refl c.part_at-place.ensures.before
+
+pub bounds-as_slice-place : goal.bounds-as_slice-place
+bounds-as_slice-place c =
+    let many = length-cross_counts c.args.matrix.now c.as_slice.result.now (c.as_slice.ensures ∙ c.requires.tables.counts) in
+    omega (arith, many, ap length (c.as_slice-2.ensures ∙ c.requires.tables.pairs), c.part_at-place.ensures.part)
