@@ -1,10 +1,14 @@
 //! Tests over memory: whole sessions, their faults and their limits.
 mod basics;
+mod certificate_texts;
+mod certificates;
 mod edits;
 mod faults;
 mod limits;
+mod scales;
 mod sessions;
 mod table;
+mod weights;
 mod wide;
 
 use crate::run::run;

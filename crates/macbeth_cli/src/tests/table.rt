@@ -18,7 +18,7 @@ pub(super) fn hold<A: Abort>(rt: &A, alloc: Global, first: &str, table: &str) ->
 }
 
 /// The lines of a session that are typed.
-fn typed(alloc: Global, lines: &str) -> Result<String, Fail> {
+pub(super) fn typed(alloc: Global, lines: &str) -> Result<String, Fail> {
     let mut text = String::new(alloc);
     for line in lines.split('\n') {
         if let Some(typed) = line.strip_prefix('>') {
@@ -30,7 +30,7 @@ fn typed(alloc: Global, lines: &str) -> Result<String, Fail> {
 }
 
 /// The lines of a session that are written.
-fn written(alloc: Global, lines: &str) -> Result<String, Fail> {
+pub(super) fn written(alloc: Global, lines: &str) -> Result<String, Fail> {
     let mut text = String::new(alloc);
     for line in lines.split('\n') {
         if !line.is_empty() && !line.starts_with('>') {
