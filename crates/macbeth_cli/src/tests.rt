@@ -1,6 +1,8 @@
 //! Tests over memory: whole sessions, their faults and their limits.
 mod basics;
 mod bytes;
+mod certificate_texts;
+mod certificates;
 mod commands;
 mod csv;
 mod dumps;
@@ -9,8 +11,10 @@ mod faults;
 mod limits;
 mod loads;
 mod names;
+mod scales;
 mod sessions;
 mod table;
+mod weights;
 mod wide;
 
 use crate::run::run;

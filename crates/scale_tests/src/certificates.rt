@@ -1,87 +1,131 @@
-use cert_check::{CertFault, print_cert, read_cert};
+use crate::problems::three;
+use cert_check::{
+    CertFault, Place, Placed, Verdict, check_dual, check_farkas, place, print_cert, read_cert,
+    read_printed,
+};
+use frac128::problem::{Cert, Problem, Row};
+use frac128::{Frac, List, NoMemory, TooWide};
+use std::alloc::Global;
 use std::test::Fail;
 
+// The denominator and the entries, or the first entry whose tag is no row.
+fn described(alloc: Global, placed: &Placed) -> Result<String, NoMemory> {
+    match placed {
+        Placed::NoRow(entry) => format!(in alloc; "no row {entry}"),
+        Placed::Cert(cert) => {
+            let mut text = format!(in alloc; "den {}", cert.den)?;
+            for (row, multiplier) in cert.on.as_slice() {
+                write!(text, ", {row} by {multiplier}")?;
+            }
+            Ok(text)
+        }
+    }
+}
+
+// The rows of the matrix are lower 1 2, 1 3 and 2 3, and cross 1 2 2 3, 1 3 1 2 and 1 3 2 3.
 #[test]
-fn texts_that_read(rt: HostRuntime) -> Result<(), Fail> {
+fn texts(rt: HostRuntime) -> Result<(), Fail> {
     let alloc = rt.alloc();
-    for text in [
-        "least 5 den 1 rows 2\nlower 1 2 1\nlower 2 3 1\n",
-        "nothing rows 2\nlower 2 3 1\ncross 1 2 1 3 1\n",
-        "least -1/2 den -7 rows 1\nzero 254 255 -170141183460469231731687303715884105727\n",
-        "least 0 den 0 rows 0\n",
+    let matrix = three(alloc, [3, 4, 2])?;
+    for (text, want) in [
+        (
+            "least 5 den 1 rows 2\nlower 1 2 1\nlower 2 3 1\n",
+            "den 1, 0 by 1, 2 by 1",
+        ),
+        (
+            "least 5 den 2 rows 2\nlower 2 3 4\ncross 1 3 1 2 -6\n",
+            "den 2, 2 by 4, 4 by -6",
+        ),
+        (
+            "least 5 den -3 rows 3\ncross 1 3 2 3 7\nlower 1 3 -1\nlower 1 3 0\n",
+            "den -3, 5 by 7, 1 by -1, 1 by 0",
+        ),
+        (
+            "least -1/2 den -7 rows 1\nzero 254 255 -170141183460469231731687303715884105727\n",
+            "no row 1",
+        ),
+        ("least 0 den 0 rows 0\n", "den 0"),
+        ("nothing rows 0\n", "den 1"),
+        ("nothing rows 2\nlower 2 3 4\nzero 1 3 1\n", "no row 2"),
+        ("nothing rows 2\ncross 1 2 1 3 1\nlower 1 9 1\n", "no row 1"),
     ] {
         let cert = read_cert(alloc, text.as_bytes()).map_err(|_| "no certificate")?;
         assert_eq!(rt; print_cert(alloc, &cert)?.as_str(), text);
+        let again = read_printed(alloc, &cert).map_err(|_| "no memory")?;
+        assert_eq!(rt; (again.claim, again.den), (cert.claim, cert.den));
+        assert_eq!(rt; again.on.as_slice(), cert.on.as_slice());
+        let placed = place(alloc, &matrix, &cert)?;
+        assert_eq!(rt; described(alloc, &placed)?.as_str(), want, "at {text}");
     }
     Ok(())
 }
 
+// Lines without their ends.
 #[test]
-fn texts_with_a_bad_line(rt: HostRuntime) {
+fn texts_that_are_cut(rt: HostRuntime) {
     let alloc = rt.alloc();
     for (text, line) in [
-        ("", 1),
-        ("hello\n", 1),
         ("least 5 den 1 rows 0", 1),
-        ("least 5 den 1 rows 0\r\n", 1),
-        ("least\t5 den 1 rows 0\n", 1),
-        ("least  5 den 1 rows 0\n", 1),
-        ("least 10/2 den 1 rows 0\n", 1),
-        ("least 5/1 den 1 rows 0\n", 1),
-        ("least -0 den 1 rows 0\n", 1),
-        ("least 1/-2 den 1 rows 0\n", 1),
-        ("least 05 den 1 rows 0\n", 1),
-        (
-            "least 170141183460469231731687303715884105728 den 1 rows 0\n",
-            1,
-        ),
-        ("least 5 den 01 rows 0\n", 1),
-        ("least 5 den -0 rows 0\n", 1),
-        ("least 5 den 1 rows -1\n", 1),
-        ("least 5 den 1 rows 00\n", 1),
-        ("least 5 den 1\n", 1),
-        ("least 5 den 1 rows 0 0\n", 1),
-        ("Least 5 den 1 rows 0\n", 1),
-        ("\nleast 5 den 1 rows 0\n", 1),
-        (
-            "least 5 den 170141183460469231731687303715884105728 rows 0\n",
-            1,
-        ),
-        ("nothing den 1 rows 0\n", 1),
-        ("nothing rows 0 \n", 1),
-        ("least 5 den 1 rows 1\n", 2),
-        (
-            "least 5 den 1 rows 170141183460469231731687303715884105727\n",
-            2,
-        ),
-        ("nothing rows 0\n\n", 2),
         ("nothing rows 1\nlower 1 2 1", 2),
-        ("nothing rows 1\nlower 0 2 1\n", 2),
-        ("nothing rows 1\nlower 1 256 1\n", 2),
-        ("nothing rows 1\nlower 1 2 1\r\n", 2),
-        ("nothing rows 1\nlower 1\t2 1\n", 2),
-        ("nothing rows 1\nlower  1 2 1\n", 2),
-        ("nothing rows 1\nlower 01 2 1\n", 2),
-        ("nothing rows 1\nlower 1 2 01\n", 2),
-        ("nothing rows 1\nlower 1 2 -0\n", 2),
-        ("nothing rows 1\nlower 1 2 1/2\n", 2),
-        ("nothing rows 1\nlower 1 2\n", 2),
-        (
-            "nothing rows 1\nlower 1 2 -170141183460469231731687303715884105728\n",
-            2,
-        ),
-        ("nothing rows 1\nlower 2 1 1\n", 2),
-        ("nothing rows 1\nzero 2 2 1\n", 2),
-        ("nothing rows 1\ncross 1 2 0 1 1\n", 2),
-        ("nothing rows 1\ncross 1 2 3 256 1\n", 2),
-        ("nothing rows 1\ncross 1 2 3 1 1\n", 2),
-        ("nothing rows 1\norder 1 1\n", 2),
-        ("nothing rows 1\nlower 1 2 1\nlower 1 3 1\n", 3),
-        ("nothing rows 2\nlower 1 2 1\nlower 1 3 +1\n", 3),
     ] {
         assert!(rt;
             read_cert(alloc, text.as_bytes()).is_err_and(|fault| fault == CertFault::Bad(line)),
             "at {text}"
         );
     }
+}
+
+// The row of these coefficients.
+fn row_of(alloc: Global, coefs: [i128; 2], bound: i128) -> Result<Row, NoMemory> {
+    Ok(Row {
+        coefs: List::make(Vec::from_array(alloc, coefs)?),
+        bound,
+    })
+}
+
+// A variable of cost 2 that is at least 2 and at most 0.
+fn no_point(alloc: Global) -> Result<Problem, Fail> {
+    let cost = Vec::from_array(alloc, [2, 0])?;
+    let above = row_of(alloc, [1, 0], 2)?;
+    let below = row_of(alloc, [-1, 0], 0)?;
+    let rows = vec![in alloc; above, below]?;
+    Ok(Problem::checked(2, List::make(cost), List::make(rows)).ok_or("no problem")?)
+}
+
+// Twice the greatest denominator is out of range before any line is false. That of a refutation isn't looked at.
+#[test]
+fn certificates_beyond_a_text(rt: HostRuntime) -> Result<(), Fail> {
+    let alloc = rt.alloc();
+    let problem = no_point(alloc)?;
+    for (den, entries, want) in [
+        (i128::MAX, [].as_slice(), Err(TooWide)),
+        (
+            i128::MIN,
+            [(9, 1)].as_slice(),
+            Ok(Verdict::Fails(Place::Den)),
+        ),
+        (
+            1,
+            [(usize::MAX, 1)].as_slice(),
+            Ok(Verdict::Fails(Place::Entry(1))),
+        ),
+        (
+            1,
+            [(0, 9), (1, i128::MIN)].as_slice(),
+            Ok(Verdict::Fails(Place::Entry(2))),
+        ),
+    ] {
+        let on = List::make(Vec::from_slice(alloc, entries)?);
+        assert_eq!(rt;
+            check_dual(&problem, &Frac::whole(1), &Cert { den, on }),
+            want,
+            "at {entries:?} over {den}"
+        );
+    }
+    let on = List::make(Vec::from_array(alloc, [(0, 1), (1, 2)])?);
+    assert_eq!(rt;
+        check_farkas(&problem, &Cert { den: -7, on }),
+        Ok(Verdict::Holds)
+    );
+    Ok(())
 }

@@ -1,22 +1,12 @@
-//! Tests of rows, scales, weights and certificates, by the calls of lp_macbeth, value_scale,
-//! swing_weights and cert_check.
+//! Tests of rows, problems, certificates and numbers that no session reaches, by the calls of lp_macbeth, cert_check,
+//! value_scale and swing_weights.
 #![tactic(auto)]
 
 #[cfg(test)]
-mod anchors;
-#[cfg(test)]
-mod basic_scales;
-#[cfg(test)]
 mod certificates;
 #[cfg(test)]
-mod checks;
-#[cfg(test)]
-mod placings;
-#[cfg(test)]
-mod rows;
-#[cfg(test)]
-mod swings;
-#[cfg(test)]
-mod translations;
+mod problems;
 #[cfg(test)]
 mod weightings;
+#[cfg(test)]
+mod widths;

@@ -1,8 +1,8 @@
 ghost use Rattle.std.specs.Prelude.{◌≡◌, IfOk};
 ghost use Rattle.integers.specs.Counting.{IsOrder};
 
+use crate::problems::problem_text;
 use frac128::Frac;
-use frac128::problem::Row;
 use judgement_matrix::{Matrix, Range};
 use lp_macbeth::{ClosedWeighting, WeightingFault, closed_weighting};
 use std::alloc::Global;
@@ -22,23 +22,11 @@ fn made(num: i128, den: i128) -> Result<Frac, Fail> {
     Ok(Frac::make(num, den).ok().ok_or("no fraction")?)
 }
 
-// Whether the row is this one.
-fn is_row(row: &Row, coefs: &[i128], bound: i128) -> bool {
-    row.coefs.as_slice() == coefs && row.bound == bound
-}
-
 // The order of two criteria that is the model's.
 fn two_in_turn() -> [usize; 2]
     ensures { IsOrder 2 result }
 {
     [0, 1]
-}
-
-// The same of three.
-fn three_in_turn() -> [usize; 3]
-    ensures { IsOrder 3 result }
-{
-    [0, 1, 2]
 }
 
 // An order of three criteria that isn't the model's.
@@ -65,14 +53,6 @@ fn unjudged(
     Ok(closed_weighting(alloc, &matrix, order, &gaps))
 }
 
-// Whether the closed problem has these costs, this scale and this least gap.
-fn has(closed: &ClosedWeighting, cost: &[i128], scale: i128, least: (i128, i128)) -> bool {
-    closed.problem.cost() == cost
-        && closed.scale == scale
-        && closed.least.num() == least.0
-        && closed.least.den() == least.1
-}
-
 // The first of three is judged over the second, and the second over the last.
 fn judged(alloc: Global, first: u8, second: u8) -> Result<Matrix, Fail>
     ensures { IfOk result (λ matrix. matrix.size ≡ 3) }
@@ -87,51 +67,45 @@ fn judged(alloc: Global, first: u8, second: u8) -> Result<Matrix, Fail>
 #[test]
 fn problem_of_two(rt: HostRuntime) -> Result<(), Fail> {
     let order = two_in_turn();
-    let cases: [(u8, u8, [i128; 2]); 2] = [(2, 3, [1, -1]), (3, 2, [-1, 1])];
-    for (first, second, cross) in cases {
+    for (first, second, want) in [
+        (2, 3, "[150, 150]\n[1, -1] 0\n[2, 1] 1\n[-2, -1] -1\n"),
+        (3, 2, "[150, 150]\n[-1, 1] 0\n[2, 1] 1\n[-2, -1] -1\n"),
+    ] {
         let matrix = judged(rt.alloc(), first, second)?;
         let gaps = [Frac::whole(50), Frac::whole(-100)];
         let closed = closed_weighting(rt.alloc(), &matrix, &order, &gaps)
             .ok()
             .ok_or("refused")?;
-        assert!(rt; has(&closed, &[150, 150], 1, (-100, 1)), "costs");
-        assert_eq!(rt; closed.problem.vars(), 2);
-        let want: [([i128; 2], i128); 3] = [(cross, 0), ([2, 1], 1), ([-2, -1], -1)];
-        assert_eq!(rt; closed.problem.rows().len(), want.len());
-        for (row, (coefs, bound)) in closed.problem.rows().iter().zip(want.iter()) {
-            assert!(rt; is_row(row, coefs.as_slice(), *bound), "at {coefs:?}");
-        }
+        assert_eq!(rt; problem_text(rt.alloc(), &closed.problem)?.as_str(), want);
+        assert_eq!(rt; closed.scale, 1);
+        assert_eq!(rt; (closed.least.num(), closed.least.den()), (-100, 1));
     }
     Ok(())
 }
 
-// Unlike denominators, and an order that isn't the model's.
+// Unlike denominators; then one case that leaves the range at a difference, at the scale, at a numerator and at a sum, each before
+// one that just fits.
 #[test]
-fn thirds_and_halves(rt: HostRuntime) -> Result<(), Fail> {
-    let gaps = [(1, 2), (1, 3), (-1, 6)];
+fn costs_of_three(rt: HostRuntime) -> Result<(), Fail> {
     let order = last_first();
+    let gaps = [(1, 2), (1, 3), (-1, 6)];
     let closed = unjudged(rt.alloc(), &order, gaps)?.ok().ok_or("refused")?;
-    assert!(rt; has(&closed, &[7, 4, 0], 6, (-1, 6)), "costs");
-    Ok(())
-}
-
-// One case that leaves the range at a difference, at the scale, at a numerator and at a sum, each before one that just fits.
-#[test]
-fn too_wide(rt: HostRuntime) -> Result<(), Fail> {
+    assert_eq!(rt; closed.problem.cost(), [7, 4, 0].as_slice());
+    assert_eq!(rt; closed.scale, 6);
+    assert_eq!(rt; (closed.least.num(), closed.least.den()), (-1, 6));
     let cases: [([(i128, i128); 3], Option<[i128; 3]>); 8] = [
-        ([(MOST, 1), (-1, 1), (0, 1)], None),
-        ([(MOST - 1, 1), (-1, 1), (-1, 1)], Some([MOST, MOST, MOST])),
-        ([(0, 1), (1, WORD + 1), (1, WORD - 1)], None),
+        ([(-1, 1), (0, 1), (MOST, 1)], None),
+        ([(-1, 1), (-1, 1), (MOST - 1, 1)], Some([MOST, MOST, MOST])),
+        ([(1, WORD + 1), (1, WORD - 1), (0, 1)], None),
         (
-            [(0, 1), (1, WORD - 1), (1, HALF - 1)],
+            [(1, WORD - 1), (1, HALF - 1), (0, 1)],
             Some([WORD + HALF - 2, HALF - 1, 0]),
         ),
-        ([(0, 1), (MOST, 1), (1, 2)], None),
-        ([(0, 1), (MOST / 2, 1), (1, 2)], Some([MOST, MOST - 1, 0])),
-        ([(0, 1), (MOST, 1), (1, 1)], None),
-        ([(0, 1), (MOST - 1, 1), (1, 1)], Some([MOST, MOST - 1, 0])),
+        ([(MOST, 1), (1, 2), (0, 1)], None),
+        ([(MOST / 2, 1), (1, 2), (0, 1)], Some([MOST, MOST - 1, 0])),
+        ([(MOST, 1), (1, 1), (0, 1)], None),
+        ([(MOST - 1, 1), (1, 1), (0, 1)], Some([MOST, MOST - 1, 0])),
     ];
-    let order = three_in_turn();
     for (gaps, want) in cases {
         match unjudged(rt.alloc(), &order, gaps)? {
             Ok(closed) => assert!(rt;

@@ -6,7 +6,7 @@ use std::alloc::Global;
 use std::test::Fail;
 
 /// The criterion of the examples, judged.
-const JUDGED_FIRST: &str = "\
+pub(super) const JUDGED_FIRST: &str = "\
 > criterion c A B C
 ok
 > judge c A B 3
@@ -106,59 +106,6 @@ refused 11 name taken
 refused 14 not a permutation
 > fits c 1 0
 refused 4 wrong number of words
-
-== verify failures
-> verify c
-> least 6 den 1 rows 2
-> lower 1 2 1
-> lower 2 3 1
-> end
-fails bound
-> verify c
-> least 5 den 1 rows 1
-> lower 1 2 -1
-> end
-fails entry 1
-> verify c
-> hello
-> end
-refused 19 bad certificate text: 1
-> verify c
-> least 5 den 170141183460469231731687303715884105727 rows 1
-> lower 1 2 170141183460469231731687303715884105727
-> end
-refused 27 too wide
-
-== the first false line
-> verify c
-> least 5 den 0 rows 0
-> end
-fails den
-> verify c
-> least 5 den 0 rows 1
-> lower 1 9 1
-> end
-fails den
-> verify c
-> least 5 den 1 rows 1
-> end
-refused 19 bad certificate text: 2
-> verify c
-> least 5 den 1 rows 1
-> lower 1 9 1
-> end
-fails entry 1
-> verify c
-> least 5 den 1 rows 2
-> lower 1 2 -1
-> lower 1 9 1
-> end
-fails entry 1
-> verify c
-> least 5 den 1 rows 1
-> lower 1 2 2
-> end
-fails column 2
 
 == a cut block
 > verify c
@@ -679,35 +626,6 @@ fn sessions_from_the_start(rt: HostRuntime) -> Result<(), Fail> {
     hold(&rt, rt.alloc(), "", WHOLE)
 }
 
-/// Judgements, the bytes of the replies to them, and the scale or its absence that they give before the certificate.
-const SCALES: [(&str, usize, &str); 5] = [
-    (
-        "criterion c A B C\njudge c A B 3\njudge c A C 4\njudge c B C 2\n",
-        12,
-        "scale 3\n\"A\" 5\n\"B\" 2\n\"C\" 0\nleast 5 den ",
-    ),
-    (
-        "criterion c A B C\n",
-        3,
-        "scale 3\n\"A\" 0\n\"B\" 0\n\"C\" 0\nleast 0 den ",
-    ),
-    (
-        "criterion c A B C\njudge c A B 0\njudge c A C 2\njudge c B C 2\n",
-        12,
-        "scale 3\n\"A\" 2\n\"B\" 2\n\"C\" 0\nleast 2 den ",
-    ),
-    (
-        "criterion c A B C\njudge c A B 3\njudge c A C 2\njudge c B C 2\n",
-        12,
-        "inconsistent\nnothing rows ",
-    ),
-    (
-        "criterion c A B C D\njudge c A B 3\njudge c A C 4\njudge c A D 6\njudge c B C 1\njudge c B D 5\njudge c C D 2\n",
-        21,
-        "inconsistent\nnothing rows ",
-    ),
-];
-
 /// What is written for further lines behind these judgements, whose replies have so many bytes.
 fn asked(alloc: Global, judged: &str, edits: usize, more: &[u8]) -> Result<Vec<u8>, Fail> {
     let mut input = bytes_of(alloc, &[judged])?;
@@ -716,26 +634,6 @@ fn asked(alloc: Global, judged: &str, edits: usize, more: &[u8]) -> Result<Vec<u
     let mut sink = NeverSink::make(alloc, ROOM)?;
     run_plainly(alloc, &mut source, &mut sink);
     Ok(Vec::from_slice(alloc, sink.bytes().get(edits..).unwrap_or(&[]))?)
-}
-
-#[test]
-fn printed_certificates_hold(rt: HostRuntime) -> Result<(), Fail> {
-    let alloc = rt.alloc();
-    for (judged, edits, scale) in &SCALES {
-        let text = asked(alloc, judged, *edits, b"scale c\n")?;
-        assert!(rt; text.starts_with(scale.as_bytes()), "{judged}");
-        let cert = asked(alloc, judged, *edits, b"cert c\n")?;
-        assert!(rt; text.ends_with(&cert), "{judged}");
-        let mut lines = bytes_of(alloc, &["verify c\n"])?;
-        lines.extend_from_slice(&cert)?;
-        lines.extend_from_slice(b"end\n")?;
-        assert_eq!(rt;
-            asked(alloc, judged, *edits, &lines)?.as_slice(),
-            b"holds\n".as_slice(),
-            "{judged}"
-        );
-    }
-    Ok(())
 }
 
 /// Lines behind the judged criterion, and how the replies to them end.
