@@ -71,10 +71,10 @@ pub(crate) fn command(
     }
 }
 
-/// A command of nothing but its word.
-fn alone(text: &[u8], made: Command) -> Result<Command, Fault>
+/// What a command of nothing but its word is, once no more words follow.
+fn alone<T: Drop>(text: &[u8], made: T) -> Result<T, Fault>
     ensures { MatchResult result
-        (λ command. (no_word (words text.now) ≡ Ok tt) × (command ≡ made))
+        (λ same. (no_word (words text.now) ≡ Ok tt) × (same ≡ made))
         (λ fault. Fails fault (no_word (words text.now))) }
 {
     no_word(text)?;
