@@ -1,4 +1,4 @@
-use Rattle.std.proofs.Common.{◌∙◌, length, ap}
+use Rattle.std.proofs.Common.{◌∙◌}
 use Rattle.judgement_matrix.specs.declared.tag.Tag.TheVariants.{Lower}
 use Rattle.lp_macbeth.proofs.RowTagLemmas.{single_at, cross_after, cross_within}
 use Rattle.lp_macbeth.proofs.row_tags.tag_at.Goals as goal
