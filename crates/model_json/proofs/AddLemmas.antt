@@ -1,11 +1,10 @@
 -- A criterion that was added is the last one, and further edits by its name change that one.
-use Rattle.std.proofs.Common.{◌≡◌, ℕ, suc, ◌+◌, ◌-◌, ◌<◌, ◌++◌, ◌||◌, Bool, true, false, not, cond, List, [], ◌∷◌, Option, Some, None, is_some, subst, Result, Ok, length, position, get_or, All, nat_lt, nat_le, codes, refl, sym, ap, ◌∙◌, arith, length-append}
+use Rattle.std.proofs.Common.{◌≡◌, ℕ, suc, ◌+◌, ◌<◌, ◌++◌, ◌||◌, Bool, true, false, not, cond, List, [], ◌∷◌, Option, Some, None, is_some, subst, Result, Ok, length, position, get_or, All, nat_lt, nat_le, codes, refl, sym, ap, ◌∙◌, arith, length-append}
 use Rattle.std.specs.List.{prefix_len}
 use Rattle.std.specs.Option.{IfSome}
 use Rattle.std.specs.Str.{bytes_eq}
 use Rattle.std.specs.Cmp.Lexicographic.{bytes_decides}
 use Rattle.std.proofs.lemmas.Bool.Decides.{nat_tests}
-use Rattle.std.proofs.lemmas.Option.{slice_get_read}
 use Rattle.integers.proofs.Lists.{position-none}
 use Rattle.word_table.specs.Words.{are_apart}
 use Rattle.judgement_matrix.specs.Matrix.{Judgements}
@@ -17,7 +16,6 @@ use Rattle.model_core.specs.Edits.{◌>>=◌, holds, edited, add_criterion, set_
 use Rattle.model_core.specs.declared.edit.EditFault.{EditFault}
 use Rattle.model_core.specs.declared.edit.EditFault.TheVariants.{NameTaken, LimitReached}
 use Rattle.model_core.specs.declared.limits.TheConstants.{CRITERIA}
-use Rattle.model_json.proofs.FindLemmas.{find-element}
 
 module _ {A : Type 0} where
   -- the first that passes is the last one
@@ -128,20 +126,14 @@ module _ (c : CriterionState) where
   with_refs = record bare { good = c.good; neutral = c.neutral }
 
 module _ (m m1 m2 : ModelState) (c : CriterionState) (keeps : IsCriterion c) (g k : List ℕ)
-    (is_g : g ≡ get_or c.elements (c.good - 1) g) (is_k : k ≡ get_or c.elements (c.neutral - 1) k)
+    (at_g : find_element c g ≡ Some c.good) (at_k : find_element c k ≡ Some c.neutral)
     (add : edited m (add_criterion c.name c.elements) ≡ Ok m1) (refs : edited m1 (set_refs c.name g k) ≡ Ok m2) where
   free : find_criterion m c.name ≡ None
   free = (added m m1 c.name c.elements add).0
 
   after_refs : m2 ≡ with_criterion m (with_refs c)
   after_refs =
-      let low : c.good - 1 < length c.elements = omega (arith, keeps.good_is, keeps.above, keeps.neutral_is) in
-      let high : c.neutral - 1 < length c.elements = omega (arith, keeps.above, keeps.neutral_is) in
       let first = subst (λ n. edited n (set_refs c.name g k) ≡ Ok m2) (added m m1 c.name c.elements add).1 refs in
-      let upper = slice_get_read c.elements (length c.elements) (c.good - 1) g refl low is_g in
-      let lower = slice_get_read c.elements (length c.elements) (c.neutral - 1) k refl high is_k in
-      let at_g = find-element (bare c) c.good g keeps.apart keeps.good_is upper in
-      let at_k = find-element (bare c) c.neutral k keeps.apart (omega (arith, keeps.above)) lower in
       refs_last m (bare c) free m2 g k c.good c.neutral at_g at_k keeps.above first
 
   -- the matrix fits

@@ -26,7 +26,7 @@ use Rattle.model_core.specs.declared.limits.TheConstants.{CRITERIA, LEAST_REACH,
 use Rattle.model_json.specs.declared.place.Place.{Place}
 use Rattle.model_json.specs.declared.place.Place.TheVariants as place
 use Rattle.model_json.specs.Steps.{each_into}
-use Rattle.model_json.specs.Reading.{place_among, group_or_root, element_of, elements_of, is_free, free_name_of, references_of, reach_or, judgements_of, parts_of, criterion_of}
+use Rattle.model_json.specs.Reading.{place_among, group_or_root, element_of, elements_of, is_free, free_name_of, references_of, reach_or, judgements_of, details_of, parts_of, criterion_of}
 use Rattle.model_json.specs.Writing.{group_name, with_group_key, element_name, whole_number, array_of, criterion_members, judgements_data, criterion_data}
 use Rattle.model_json.specs.Kept.{IsNamed, IsNamedCriterion}
 use Rattle.model_json.proofs.EachAgain.{each_again}
@@ -125,7 +125,7 @@ module _ (m before : ModelState) (i : ℕ) (c : CriterionState) where
       → judgements_of (Some i) (length c.elements) (Some (judgements_data c.matrix)) ≡ Ok c.matrix
       → reach_or (place.Reach i) (Some (whole_number c.reach)) ≡ Ok c.reach
       → parts_of true i before (data_in m c group) ≡ Ok (record c { group = group })
-  unfolding parts_of
+  unfolding parts_of details_of
   parts_in None above room name elements refs matrix reach = rw (room, name, elements, refs, matrix, reach) refl
   parts_in (Some g) above room name elements refs matrix reach = rw (room, name, elements, refs, matrix, reach, above) refl
 

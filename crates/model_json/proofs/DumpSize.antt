@@ -14,7 +14,7 @@ use Rattle.judgement_matrix.specs.Matrix.{Judgements, IsPair, IsCell, IsMatrix, 
 use Rattle.judgement_matrix.proofs.EveryLemmas.{every-pairs}
 use Rattle.judgement_matrix.proofs.PlaceLemmas.{length-pairs}
 use Rattle.model_core.specs.State.{CriterionState, GroupState, ModelState}
-use Rattle.model_json.specs.Writing.{whole_number, array_of, judged_at, judged_pairs, judgement_data, judgements_data, group_name, with_group_key, group_data, element_name, criterion_data, performance_members, option_data, weighting_data, options_with_rows, criterion_name, model_data, dump_text}
+use Rattle.model_json.specs.Writing.{whole_number, array_of, judged_at, judgement_data, judgements_data, group_name, with_group_key, group_data, element_name, criterion_data, performance_members, option_data, weighting_data, options_with_rows, criterion_name, model_data, dump_text}
 use Rattle.model_json.specs.Kept.{IsNamed, IsNamedCriterion, IsNamedModel}
 use Rattle.model_json.proofs.LineLemmas.{number_length}
 use Rattle.model_json.proofs.LayoutLines.{IsShort}

@@ -5,7 +5,6 @@ use Rattle.model_core.specs.State.{ModelState}
 use Rattle.model_json.specs.Reading.{model_of}
 use Rattle.model_json.specs.Text.{json_of, or_bad, model_or_bad, load_of}
 use Rattle.model_json.specs.declared.place.Place.{Place}
-use Rattle.model_json.specs.declared.fault.LoadFault.{LoadFault}
 use Rattle.model_json.specs.declared.fault.LoadFault.TheVariants.{NoMemory}
 
 of_model : (read : Result ModelState Place) → or_bad read ≡ Err NoMemory → ⊥

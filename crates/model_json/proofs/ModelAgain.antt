@@ -14,7 +14,7 @@ use Rattle.model_core.specs.Lists.{AreNamedApart, find}
 use Rattle.model_core.specs.State.{ModelState, IsRow, no_criterion, empty_model}
 use Rattle.model_core.specs.Edits.{are_numbers_apart, is_permutation}
 use Rattle.model_json.specs.Steps.{each_into}
-use Rattle.model_json.specs.Reading.{ranked_of, order_of, weighting_of, format_of, group_of, criterion_of, option_of, model_of}
+use Rattle.model_json.specs.Reading.{ranked_of, order_of, weighting_of, format_of, group_of, criterion_of, option_of, contents_of, model_of}
 use Rattle.model_json.specs.Writing.{array_of, criterion_name, group_data, criterion_data, option_data, options_with_rows, weighting_data, model_data}
 use Rattle.model_json.specs.Text.{json_of, load_of}
 use Rattle.model_json.specs.Kept.{IsNamed, IsNamedCriterion, IsNamedModel}
@@ -97,7 +97,7 @@ parts_again : (m : ModelState) → each_into group_of 0 empty_model (items_of (m
     → each_into option_of 0 (after_criteria m) (items_of (map (option_data m) (options_with_rows m.options m.performances))) ≡ Ok (without_weighting m)
     → weighting_of (without_weighting m) (Some (weighting_data m)) ≡ Ok m
     → model_of (model_data m) ≡ Ok m
-unfolding model_of format_of model_data
+unfolding model_of contents_of format_of model_data
 parts_again m groups criteria options weighting = rw (groups, criteria, options, weighting) refl
 
 pub model_again : (m : ModelState) → IsNamedModel m → model_of (model_data m) ≡ Ok m

@@ -78,6 +78,14 @@ regroup : (seen : List (Option ℕ)) (x : Option ℕ) (rest : Result (List (Opti
 regroup seen x (Ok rest) = ap Ok (append_assoc seen (x ∷ []) rest)
 regroup seen x (Err place) = refl
 
+onto_none : (rest : Result (List (Option ℕ)) Place) → onto [] rest ≡ rest
+onto_none (Ok rest) = refl
+onto_none (Err place) = refl
+
+-- before the first criterion
+pub row_starts : (place : Place) (cs : List CriterionState) (d : Data) → RowLeft place cs d 0 []
+row_starts place cs d = onto_none (performances_of place cs d)
+
 module _ (place : Place) (cs : List CriterionState) (d : Data) (c : ℕ) (seen : List (Option ℕ)) (left : RowLeft place cs d c seen) where
   pub row_done : length cs ≤ c → performances_of place cs d ≡ Ok seen
   unfolding performances_of

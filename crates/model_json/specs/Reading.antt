@@ -14,6 +14,7 @@ use Rattle.model_core.specs.Finding.{find_option, find_criterion, find_group}
 use Rattle.model_core.specs.Edits.{with_criterion, with_group, is_permutation}
 use Rattle.model_core.specs.declared.limits.TheConstants.{OPTIONS, CRITERIA, GROUPS, LEAST_REACH, MOST_REACH, NEW_REACH}
 use Rattle.model_json.specs.declared.judgements.Numbers.{Numbers}
+use Rattle.model_json.specs.declared.criteria.Details.{Details}
 use Rattle.model_json.specs.declared.place.Place.{Place}
 use Rattle.model_json.specs.declared.place.Place.TheVariants as place
 use Rattle.model_json.specs.Steps.{◌>>=◌, found_or, holds_or, whole, string_at, name_at, array_at, array_or_none, object_at, each_into}
@@ -145,6 +146,15 @@ references_of i elements d = do
   above ← holds_or (place.Neutral i) (nat_lt good neutral)
   Ok (good, neutral)
 
+-- what stands beside the name and the elements of a criterion
+unfoldable pub details_of : ℕ → ModelState → List (List ℕ) → Data → Result Details Place
+details_of i m elements d = do
+  refs ← references_of i elements d
+  matrix ← judgements_of (Some i) (length elements) (get (codes "judgements") d)
+  reach ← reach_or (place.Reach i) (get (codes "reach") d)
+  group ← group_or_root (place.CriterionGroup i) m (get (codes "group") d)
+  Ok (record { good = refs.0; neutral = refs.1; matrix = matrix; reach = reach; group = group })
+
 -- the parts of a criterion
 unfoldable pub parts_of : Bool → ℕ → ModelState → Data → Result CriterionState Place
 parts_of grouped i m d = do
@@ -152,18 +162,15 @@ parts_of grouped i m d = do
   room ← holds_or (place.Criterion i) (nat_lt i CRITERIA)
   name ← free_name_of i m (get (codes "name") d)
   elements ← elements_of i (get (codes "elements") d)
-  refs ← references_of i elements d
-  matrix ← judgements_of (Some i) (length elements) (get (codes "judgements") d)
-  reach ← reach_or (place.Reach i) (get (codes "reach") d)
-  group ← group_or_root (place.CriterionGroup i) m (get (codes "group") d)
+  details ← details_of i m elements d
   Ok (record {
     name = name;
     elements = elements;
-    good = refs.0;
-    neutral = refs.1;
-    matrix = matrix;
-    reach = reach;
-    group = group;
+    good = details.good;
+    neutral = details.neutral;
+    matrix = details.matrix;
+    reach = details.reach;
+    group = details.group;
   })
 
 -- the model with one more criterion
@@ -255,14 +262,19 @@ format_of value = do
 abbrev pub model_keys : List (List ℕ)
 model_keys = codes "macbeth" ∷ codes "criteria" ∷ codes "groups" ∷ codes "options" ∷ codes "weighting" ∷ []
 
+-- the model with criteria, options and a weighting
+unfoldable pub contents_of : Bool → ModelState → Data → Result ModelState Place
+contents_of grouped m d = do
+  criteria ← array_at place.Criteria (get (codes "criteria") d)
+  after_criteria ← each_into (criterion_of grouped) 0 m criteria
+  options ← array_or_none place.Options (get (codes "options") d)
+  after_options ← each_into option_of 0 after_criteria options
+  weighting_of after_options (get (codes "weighting") d)
+
 unfoldable pub model_of : Data → Result ModelState Place
 model_of d = do
   plain ← object_at place.Whole model_keys d
   grouped ← format_of (get (codes "macbeth") d)
   groups ← groups_in grouped (get (codes "groups") d)
   after_groups ← each_into group_of 0 empty_model groups
-  criteria ← array_at place.Criteria (get (codes "criteria") d)
-  after_criteria ← each_into (criterion_of grouped) 0 after_groups criteria
-  options ← array_or_none place.Options (get (codes "options") d)
-  after_options ← each_into option_of 0 after_criteria options
-  weighting_of after_options (get (codes "weighting") d)
+  contents_of grouped after_groups d

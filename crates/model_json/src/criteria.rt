@@ -1,5 +1,5 @@
 //! Criteria of a JSON value.
-ghost use Rattle.std.specs.Prelude.{Ok, IsTrue, ◌≡◌, ◌≤◌, ◌<◌, ◌++◌, ◌∷◌, [], false, length, is_some, IfOk, IfSome, OnOk, option_map, codes};
+ghost use Rattle.std.specs.Prelude.{Ok, Some, IsTrue, ◌≡◌, ◌≤◌, ◌<◌, ◌++◌, ◌∷◌, [], false, length, is_some, IfOk, IfSome, OnOk, option_map, codes};
 ghost use Rattle.std.specs.List.{list_any};
 ghost use Rattle.std.specs.Str.{bytes_eq};
 ghost use Rattle.serde_json.specs.View.{view, items_view};
@@ -8,10 +8,11 @@ ghost use Rattle.word_table.specs.Words.{AreApart};
 ghost use Rattle.judgement_matrix.specs.declared.matrix.TheConstants.{LIMIT};
 ghost use Rattle.model_core.specs.Lists.{find};
 ghost use Rattle.model_core.specs.State.{is_reserved};
-ghost use Rattle.model_core.specs.Edits.{with_criterion};
+ghost use Rattle.model_core.specs.Finding.{find_element};
+ghost use Rattle.model_core.specs.Edits.{with_criterion, group_named};
 ghost use Rattle.model_core.specs.declared.limits.TheConstants.{LEAST_REACH, MOST_REACH};
 ghost use Rattle.model_json.specs.Steps.{Gives, Reads, each_into, object_at};
-ghost use Rattle.model_json.specs.Reading.{is_free, place_among, element_of, elements_of, element_or, reach_or, free_name_of, references_of, parts_of, criterion_keys, criterion_of};
+ghost use Rattle.model_json.specs.Reading.{is_free, place_among, element_of, elements_of, element_or, reach_or, free_name_of, references_of, details_of, parts_of, criterion_keys, criterion_of};
 ghost use Rattle.model_json.specs.declared.place.Place.TheVariants as place;
 
 use crate::fault::Stop;
@@ -20,7 +21,9 @@ use crate::judgements::read_judgements;
 use crate::place::Place;
 use crate::steps::{array_at, holds_or, name_at, object_at, string_at, whole};
 use judgement_matrix::{LIMIT, Matrix};
-use model_core::{CRITERIA, LEAST_REACH, MOST_REACH, Model, NEW_REACH, Name, is_reserved};
+use model_core::{
+    CRITERIA, LEAST_REACH, MOST_REACH, Model, NEW_REACH, Name, NoMemory, is_reserved,
+};
 use serde_json::Value;
 use std::alloc::Global;
 
@@ -244,6 +247,48 @@ fn check_keys(grouped: bool, i: usize, value: &Value) -> Result<(), Stop>
     )
 }
 
+// What stands beside the name and the elements of a criterion.
+#[derive(Drop)]
+struct Details {
+    good: usize,
+    neutral: usize,
+    matrix: Matrix,
+    reach: u32,
+    group: Option<usize>,
+}
+
+#[tactic(auto, unfolding(crate::specs::Reading::details_of))]
+fn read_details(
+    alloc: Global,
+    i: usize,
+    model: &Model,
+    elements: &[Name],
+    value: &Value,
+) -> Result<Details, Stop>
+    requires { (2 ≤ length elements.now) × (length elements.now ≤ LIMIT) }
+    ensures details { Gives (λ details. details) result
+        (details_of i model.now elements.now (view value.now)) }
+    ensures references { IfOk result (λ details. (1 ≤ details.good)
+        × ((details.good < details.neutral) × (details.neutral ≤ length elements.now))) }
+    ensures size { IfOk result (λ details. details.matrix.size ≡ length elements.now) }
+    ensures reach { IfOk result (λ details.
+        (LEAST_REACH ≤ details.reach) × (details.reach ≤ MOST_REACH)) }
+    ensures within { IfOk result (λ details.
+        IfSome details.group (λ at. at < length model.now.groups)) }
+{
+    let (good, neutral) = read_references(i, elements, value)?;
+    let matrix = read_judgements(alloc, Some(i), elements.len(), value.get("judgements"))?;
+    let reach = reach_or(Place::Reach(i), value.get("reach"))?;
+    let group = group_or_root(Place::CriterionGroup(i), model, value.get("group"))?;
+    Ok(Details {
+        good,
+        neutral,
+        matrix,
+        reach,
+        group,
+    })
+}
+
 #[tactic(auto, unfolding(crate::specs::Reading::parts_of))]
 fn read_parts(
     alloc: Global,
@@ -260,17 +305,63 @@ fn read_parts(
     holds_or(Place::Criterion(i), i < CRITERIA)?;
     let name = read_free_name(alloc, i, model, value.get("name"))?;
     let elements = read_elements(alloc, i, value.get("elements"))?;
-    let (good, neutral) = read_references(i, &elements, value)?;
-    let matrix = read_judgements(alloc, Some(i), elements.len(), value.get("judgements"))?;
-    let reach = reach_or(Place::Reach(i), value.get("reach"))?;
-    let group = group_or_root(Place::CriterionGroup(i), model, value.get("group"))?;
+    let details = read_details(alloc, i, model, &elements, value)?;
     Ok(Parts {
         name,
         elements,
+        good: details.good,
+        neutral: details.neutral,
+        matrix: details.matrix,
+        reach: details.reach,
+        group: details.group,
+    })
+}
+
+// The names by which the edits find a new criterion, its references and its group.
+#[derive(Drop)]
+struct Names {
+    name: Name,
+    good: Name,
+    neutral: Name,
+    group: Option<Name>,
+}
+
+fn reference_name(parts: &Parts, at: usize) -> Result<Name, NoMemory>
+    requires { (1 ≤ at) × (at ≤ length parts.now.elements) }
+    ensures { IfOk result (λ name. find_element parts.now name ≡ Some at) }
+{
+    parts.elements[at - 1].copy()
+}
+
+// The names of the good and of the neutral element.
+fn reference_names(parts: &Parts) -> Result<(Name, Name), NoMemory>
+    ensures good { IfOk result (λ names. find_element parts.now names.0 ≡ Some parts.now.good) }
+    ensures neutral { IfOk result (λ names.
+        find_element parts.now names.1 ≡ Some parts.now.neutral) }
+{
+    let good = reference_name(parts, parts.good)?;
+    let neutral = reference_name(parts, parts.neutral)?;
+    Ok((good, neutral))
+}
+
+// Copies of the names, since the parts themselves move into the model.
+fn names_of(model: &Model, parts: &Parts) -> Result<Names, NoMemory>
+    requires { IfSome parts.now.group (λ at. at < length model.now.groups) }
+    ensures name { IfOk result (λ names. names.name ≡ parts.now.name) }
+    ensures good { IfOk result (λ names.
+        find_element parts.now names.good ≡ Some parts.now.good) }
+    ensures neutral { IfOk result (λ names.
+        find_element parts.now names.neutral ≡ Some parts.now.neutral) }
+    ensures group { IfOk result (λ names.
+        group_named model.now names.group ≡ Ok parts.now.group) }
+{
+    let name = parts.name.copy()?;
+    let (good, neutral) = reference_names(parts)?;
+    let group = parent_name(model, parts.group)?;
+    Ok(Names {
+        name,
         good,
         neutral,
-        matrix,
-        reach,
         group,
     })
 }
@@ -284,31 +375,41 @@ fn bytes_of(name: &Option<Name>) -> Option<&[u8]>
     }
 }
 
-// Adds a criterion with these parts. What can refuse an edit was checked before, so that only memory may be wanting.
+// Adds a criterion with these parts, which have these names. What can refuse an edit was checked before, so that only
+// memory may be wanting.
+fn add_named(model: &mut Model, parts: Parts, names: &Names) -> Result<(), Stop>
+    requires name { names.now.name ≡ parts.name }
+    requires good { find_element parts names.now.good ≡ Some parts.good }
+    requires neutral { find_element parts names.now.neutral ≡ Some parts.neutral }
+    requires group { group_named model.old names.now.group ≡ Ok parts.group }
+    ensures { Reads result (Ok (with_criterion model.old parts)) model.new }
+{
+    let name = names.name.as_bytes();
+    let Ok(()) = model.add_criterion(parts.name, parts.elements) else {
+        return Err(Stop::NoMemory);
+    };
+    let Ok(()) = model.set_refs(name, names.good.as_bytes(), names.neutral.as_bytes()) else {
+        return Err(Stop::NoMemory);
+    };
+    let Ok(()) = model.set_matrix(name, parts.matrix) else {
+        return Err(Stop::NoMemory);
+    };
+    let Ok(()) = model.set_reach(name, parts.reach) else {
+        return Err(Stop::NoMemory);
+    };
+    let Ok(()) = model.place(name, bytes_of(&names.group)) else {
+        return Err(Stop::NoMemory);
+    };
+    Ok(())
+}
+
+// Adds a criterion with these parts.
 fn add_parts(model: &mut Model, parts: Parts) -> Result<(), Stop>
     requires { IfSome parts.group (λ at. at < length model.old.groups) }
     ensures { Reads result (Ok (with_criterion model.old parts)) model.new }
 {
-    let name = parts.name.copy()?;
-    let good = parts.elements[parts.good - 1].copy()?;
-    let neutral = parts.elements[parts.neutral - 1].copy()?;
-    let group = parent_name(model, parts.group)?;
-    let Ok(()) = model.add_criterion(parts.name, parts.elements) else {
-        return Err(Stop::NoMemory);
-    };
-    let Ok(()) = model.set_refs(name.as_bytes(), good.as_bytes(), neutral.as_bytes()) else {
-        return Err(Stop::NoMemory);
-    };
-    let Ok(()) = model.set_matrix(name.as_bytes(), parts.matrix) else {
-        return Err(Stop::NoMemory);
-    };
-    let Ok(()) = model.set_reach(name.as_bytes(), parts.reach) else {
-        return Err(Stop::NoMemory);
-    };
-    let Ok(()) = model.place(name.as_bytes(), bytes_of(&group)) else {
-        return Err(Stop::NoMemory);
-    };
-    Ok(())
+    let names = names_of(model, &parts)?;
+    add_named(model, parts, &names)
 }
 
 /// Adds the criterion that a value is.

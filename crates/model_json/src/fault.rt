@@ -5,7 +5,7 @@ use model_core::{NoMemory, Pointer};
 use std::alloc::AllocFailed;
 
 /// Why a value was not read.
-#[derive(Clone, Copy, Debug, PartialEq, Eq, Drop)]
+#[derive(Clone, Copy, Drop)]
 pub enum Stop {
     /// Memory ran out.
     NoMemory,

@@ -15,7 +15,9 @@ pub fn load(alloc: Global, bytes: &[u8]) -> Result<Model, LoadFault>
     ensures { Loads bytes.now result }
 {
     let value = parse(alloc, bytes)?;
-    match read_model(alloc, &value) {
+    let read = read_model(alloc, &value);
+    drop(value);
+    match read {
         Ok(model) => Ok(model),
         Err(Stop::NoMemory) => Err(LoadFault::NoMemory),
         Err(Stop::At(place)) => Err(LoadFault::BadModel(pointer_of(alloc, place)?)),

@@ -115,7 +115,6 @@ fn nowhere(alloc: Global, model: &Model) -> Result<Vec<Option<usize>>, Stop>
 }
 
 // The performances of an option on all criteria.
-#[tactic(auto, unfolding(crate::specs::Reading::performances_of))]
 fn performances_of(
     alloc: Global,
     place: Place,

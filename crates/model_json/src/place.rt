@@ -1,7 +1,7 @@
 //! Places in a model's JSON value.
 
 /// The first part of a value that isn't as it has to be. Indexes count from 0.
-#[derive(Clone, Copy, Debug, PartialEq, Eq, Drop)]
+#[derive(Clone, Copy, Drop)]
 pub enum Place {
     /// The whole value.
     Whole,

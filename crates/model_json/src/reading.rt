@@ -3,7 +3,7 @@ ghost use Rattle.std.specs.Prelude.{◌≡◌, option_map};
 ghost use Rattle.serde_json.specs.View.{view, items_view};
 ghost use Rattle.model_core.specs.State.{empty_model};
 ghost use Rattle.model_json.specs.Steps.{Gives, Reads, each_into};
-ghost use Rattle.model_json.specs.Reading.{if_format, format_of, groups_in, criterion_of, model_of};
+ghost use Rattle.model_json.specs.Reading.{if_format, format_of, groups_in, criterion_of, contents_of, model_of};
 
 use crate::criteria::read_criterion;
 use crate::fault::Stop;
@@ -36,6 +36,14 @@ fn read_all(alloc: Global, model: &mut Model, value: &Value) -> Result<(), Stop>
     let grouped = read_format(value.get("macbeth"))?;
     let groups = groups_in(grouped, value.get("groups"))?;
     read_groups(alloc, model, groups)?;
+    read_contents(alloc, grouped, model, value)
+}
+
+// Adds the criteria, the options and the weighting that a value holds.
+#[tactic(auto, unfolding(crate::specs::Reading::contents_of))]
+fn read_contents(alloc: Global, grouped: bool, model: &mut Model, value: &Value) -> Result<(), Stop>
+    ensures { Reads result (contents_of grouped model.old (view value.now)) model.new }
+{
     let criteria = array_at(Place::Criteria, value.get("criteria"))?;
     read_criteria(alloc, grouped, model, criteria)?;
     let options = array_or_none(Place::Options, value.get("options"))?;

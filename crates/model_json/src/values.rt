@@ -1,8 +1,8 @@
 //! The parts of a model as JSON values.
 ghost use Rattle.std.specs.Prelude.{◌≡◌, ◌<◌, ◌≤◌, ◌+◌, ◌-◌, ℕ, IfOk, IfSome, OnOk, length, map, slice_get, slice_index_or, Some, None, [], codes};
-ghost use Rattle.serde_json.specs.Data.{string, object, member, no_members};
+ghost use Rattle.serde_json.specs.Data.{string, object, member, no_members, put as with_member};
 ghost use Rattle.serde_json.specs.View.{view, members_view};
-ghost use Rattle.model_json.specs.Writing.{array_of, judged_pairs, judgement_data, judgements_data, group_name, group_data, criterion_members, criterion_data, element_name, with_performance_key, performance_members};
+ghost use Rattle.model_json.specs.Writing.{array_of, judged_pairs, judgement_data, judgements_data, group_name, group_data, whole_number, criterion_data, element_name, with_performance_key, performance_members};
 
 use judgement_matrix::{Matrix, Range};
 use model_core::laws::what_a_model_keeps;
@@ -17,12 +17,29 @@ pub(crate) fn text_value(alloc: Global, text: &str) -> Result<Value, NoMemory>
     json!(in alloc; text)
 }
 
+/// Puts a text.
+pub(crate) fn put_text(
+    members: &mut Map<String, Value>,
+    alloc: Global,
+    key: &str,
+    text: &str,
+) -> Result<(), NoMemory>
+    ensures { OnOk result (members_view members.new.entries
+        ≡ with_member key.now (string text.now) (members_view members.old.entries)) }
+{
+    let value = text_value(alloc, text)?;
+    put(members, alloc, key, value)
+}
+
 fn judgement_value(alloc: Global, p: u8, q: u8, range: Range) -> Result<Value, NoMemory>
     ensures { IfOk result (λ v. view v ≡ judgement_data (p, q, range)) }
 {
-    let lo = range.lo();
-    let hi = range.hi();
-    json!(in alloc; [p, q, lo, hi])
+    let mut numbers = Vec::new(alloc);
+    numbers.push(Value::from(p))?;
+    numbers.push(Value::from(q))?;
+    numbers.push(Value::from(range.lo()))?;
+    numbers.push(Value::from(range.hi()))?;
+    Ok(Value::Array(numbers))
 }
 
 fn each_judgement(alloc: Global, matrix: &Matrix) -> Result<Vec<Value>, NoMemory>
@@ -60,12 +77,13 @@ pub(crate) fn group_value(alloc: Global, model: &Model, group: &Group) -> Result
     requires { IfSome group.now.parent (λ at. at < length model.now.groups) }
     ensures { IfOk result (λ v. view v ≡ group_data model.now group.now) }
 {
-    let name = group.name().as_str();
+    let mut members = Map::new(alloc);
+    put_text(&mut members, alloc, "name", group.name().as_str())?;
     let Some(at) = group.parent() else {
-        return json!(in alloc; {"name": name});
+        return Ok(Value::Object(members));
     };
-    let parent = group_name(model, at);
-    json!(in alloc; {"name": name, "parent": parent})
+    put_text(&mut members, alloc, "parent", group_name(model, at))?;
+    Ok(Value::Object(members))
 }
 
 // The name of an element.
@@ -93,27 +111,58 @@ fn elements_value(alloc: Global, criterion: &Criterion) -> Result<Value, NoMemor
     Ok(Value::Array(each_element(alloc, criterion)?))
 }
 
-// The members of a criterion at the root.
-fn root_members(
+// Puts the name of a criterion, of its good and of its neutral element.
+fn put_names(
+    members: &mut Map<String, Value>,
     alloc: Global,
     criterion: &Criterion,
-    elements: Value,
-    judgements: Value,
-) -> Result<Map<String, Value>, NoMemory>
-    ensures { IfOk result (λ made. members_view made.entries
-        ≡ criterion_members criterion.now (view elements) (λ members. members) (view judgements)) }
+) -> Result<(), NoMemory>
+    ensures { OnOk result (members_view members.new.entries
+        ≡ with_member (codes "neutral") (string (element_name criterion.now criterion.now.neutral))
+        (with_member (codes "name") (string criterion.now.name)
+        (with_member (codes "good") (string (element_name criterion.now criterion.now.good))
+        (members_view members.old.entries)))) }
 {
-    let good = text_value(alloc, element_name(criterion, criterion.good()))?;
-    let name = text_value(alloc, criterion.name().as_str())?;
-    let neutral = text_value(alloc, element_name(criterion, criterion.neutral()))?;
-    let mut members = Map::new(alloc);
-    put(&mut members, alloc, "elements", elements)?;
-    put(&mut members, alloc, "good", good)?;
-    put(&mut members, alloc, "judgements", judgements)?;
-    put(&mut members, alloc, "name", name)?;
-    put(&mut members, alloc, "neutral", neutral)?;
-    put(&mut members, alloc, "reach", Value::from(criterion.reach()))?;
-    Ok(members)
+    put_text(
+        members,
+        alloc,
+        "good",
+        element_name(criterion, criterion.good()),
+    )?;
+    put_text(members, alloc, "name", criterion.name().as_str())?;
+    put_text(
+        members,
+        alloc,
+        "neutral",
+        element_name(criterion, criterion.neutral()),
+    )
+}
+
+// Puts the elements, the judgements and the reach of a criterion.
+fn put_parts(
+    members: &mut Map<String, Value>,
+    alloc: Global,
+    criterion: &Criterion,
+) -> Result<(), NoMemory>
+    ensures { OnOk result (members_view members.new.entries
+        ≡ with_member (codes "reach") (whole_number criterion.now.reach)
+        (with_member (codes "judgements") (judgements_data criterion.now.matrix)
+        (with_member (codes "elements") (array_of (map string criterion.now.elements))
+        (members_view members.old.entries)))) }
+{
+    put(
+        members,
+        alloc,
+        "elements",
+        elements_value(alloc, criterion)?,
+    )?;
+    put(
+        members,
+        alloc,
+        "judgements",
+        judgements_value(alloc, criterion.matrix())?,
+    )?;
+    put(members, alloc, "reach", Value::from(criterion.reach()))
 }
 
 /// A criterion.
@@ -126,14 +175,13 @@ pub(crate) fn criterion_value(
     requires { IfSome criterion.now.group (λ at. at < length model.now.groups) }
     ensures { IfOk result (λ v. view v ≡ criterion_data model.now criterion.now) }
 {
-    let elements = elements_value(alloc, criterion)?;
-    let judgements = judgements_value(alloc, criterion.matrix())?;
-    let mut members = root_members(alloc, criterion, elements, judgements)?;
+    let mut members = Map::new(alloc);
+    put_names(&mut members, alloc, criterion)?;
+    put_parts(&mut members, alloc, criterion)?;
     let Some(at) = criterion.group() else {
         return Ok(Value::Object(members));
     };
-    let group = text_value(alloc, group_name(model, at))?;
-    put(&mut members, alloc, "group", group)?;
+    put_text(&mut members, alloc, "group", group_name(model, at))?;
     Ok(Value::Object(members))
 }
 
@@ -151,8 +199,12 @@ fn put_performance(
     let Some(element) = performance else {
         return Ok(());
     };
-    let value = text_value(alloc, element_name(criterion, element))?;
-    put(members, alloc, criterion.name().as_str(), value)
+    put_text(
+        members,
+        alloc,
+        criterion.name().as_str(),
+        element_name(criterion, element),
+    )
 }
 
 /// What an option performs.

@@ -1,23 +1,23 @@
 //! From a model to a text.
-ghost use Rattle.std.specs.Prelude.{◌≡◌, ◌<◌, ◌≤◌, ◌==◌, ℕ, All, Some, Ok, IfOk, IsUtf8, length, map, string_bytes, slice_index_or, []};
+ghost use Rattle.std.specs.Prelude.{◌≡◌, ◌<◌, ◌≤◌, ◌==◌, ℕ, All, Some, Ok, IfOk, OnOk, IsUtf8, codes, length, map, string_bytes, slice_index_or, []};
 ghost use Rattle.std.specs.List.{slice_split};
 ghost use Rattle.json.specs.Lex.{tokens};
 ghost use Rattle.json.specs.Layout.{pretty};
-ghost use Rattle.serde_json.specs.Data.{string, depth};
+ghost use Rattle.serde_json.specs.Data.{string, depth, put as with_member};
 ghost use Rattle.serde_json.specs.Read.{read, max_depth};
-ghost use Rattle.serde_json.specs.View.{view};
+ghost use Rattle.serde_json.specs.View.{view, members_view};
 ghost use Rattle.serde_json.specs.Written.{IsInOrder};
-ghost use Rattle.model_json.specs.Writing.{criterion_data, group_data, option_data, options_with_rows, criterion_name, weighting_data, model_data, dump_text};
+ghost use Rattle.model_json.specs.Writing.{array_of, criterion_data, group_data, option_data, options_with_rows, criterion_name, weighting_data, model_data, dump_text};
 ghost use Rattle.model_json.specs.Text.{load_of};
 ghost use Rattle.model_json.specs.declared.writing.TheConstants.{DUMP_LINE, DUMP_TEXT};
 
 use crate::kept::model_is_named;
 use crate::values::{
-    criterion_value, group_value, judgements_value, performances_value, text_value,
+    criterion_value, group_value, judgements_value, performances_value, put_text, text_value,
 };
 use model_core::laws::what_a_model_keeps;
 use model_core::{Model, NoMemory};
-use serde_json::{Value, json};
+use serde_json::{Map, Value, put};
 use std::alloc::Global;
 
 fn each_criterion(alloc: Global, model: &Model) -> Result<Vec<Value>, NoMemory>
@@ -55,9 +55,15 @@ fn option_value(alloc: Global, model: &Model, at: usize) -> Result<Value, NoMemo
     ensures { IfOk result (λ v. view v ≡ option_data model.now
         (slice_index_or model.now.options at [], slice_index_or model.now.performances at [])) }
 {
-    let name = option_name(model, at);
-    let performances = performances_value(alloc, model, at)?;
-    json!(in alloc; {"name": name, "performances": performances})
+    let mut members = Map::new(alloc);
+    put_text(&mut members, alloc, "name", option_name(model, at))?;
+    put(
+        &mut members,
+        alloc,
+        "performances",
+        performances_value(alloc, model, at)?,
+    )?;
+    Ok(Value::Object(members))
 }
 
 fn each_option(alloc: Global, model: &Model) -> Result<Vec<Value>, NoMemory>
@@ -97,22 +103,66 @@ fn each_ranked(alloc: Global, model: &Model) -> Result<Vec<Value>, NoMemory>
 fn weighting_value(alloc: Global, model: &Model) -> Result<Value, NoMemory>
     ensures { IfOk result (λ v. view v ≡ weighting_data model.now) }
 {
-    let judgements = judgements_value(alloc, model.weighting())?;
-    let order = each_ranked(alloc, model)?;
-    json!(in alloc; {"judgements": judgements, "order": order})
+    let mut members = Map::new(alloc);
+    put(
+        &mut members,
+        alloc,
+        "judgements",
+        judgements_value(alloc, model.weighting())?,
+    )?;
+    put(
+        &mut members,
+        alloc,
+        "order",
+        Value::Array(each_ranked(alloc, model)?),
+    )?;
+    Ok(Value::Object(members))
+}
+
+// Puts the criteria, the groups and the options of a model.
+fn put_lists(members: &mut Map<String, Value>, alloc: Global, model: &Model) -> Result<(), NoMemory>
+    ensures { OnOk result (members_view members.new.entries
+        ≡ with_member (codes "options") (array_of (map (option_data model.now)
+        (options_with_rows model.now.options model.now.performances)))
+        (with_member (codes "groups") (array_of (map (group_data model.now) model.now.groups))
+        (with_member (codes "criteria")
+        (array_of (map (criterion_data model.now) model.now.criteria))
+        (members_view members.old.entries)))) }
+{
+    put(
+        members,
+        alloc,
+        "criteria",
+        Value::Array(each_criterion(alloc, model)?),
+    )?;
+    put(
+        members,
+        alloc,
+        "groups",
+        Value::Array(each_group(alloc, model)?),
+    )?;
+    put(
+        members,
+        alloc,
+        "options",
+        Value::Array(each_option(alloc, model)?),
+    )
 }
 
 #[tactic(auto, unfolding(crate::specs::Writing::model_data))]
 fn model_value(alloc: Global, model: &Model) -> Result<Value, NoMemory>
     ensures { IfOk result (λ v. view v ≡ model_data model.now) }
 {
-    let criteria = each_criterion(alloc, model)?;
-    let groups = each_group(alloc, model)?;
-    let options = each_option(alloc, model)?;
-    let weighting = weighting_value(alloc, model)?;
-    json!(in alloc; {
-        "criteria": criteria, "groups": groups, "macbeth": 2u64, "options": options, "weighting": weighting
-    })
+    let mut members = Map::new(alloc);
+    put_lists(&mut members, alloc, model)?;
+    put(&mut members, alloc, "macbeth", Value::from(2u64))?;
+    put(
+        &mut members,
+        alloc,
+        "weighting",
+        weighting_value(alloc, model)?,
+    )?;
+    Ok(Value::Object(members))
 }
 
 // The text of a value in the pretty layout.
