@@ -5,6 +5,7 @@ use cert_check::{
 };
 use frac128::problem::{Cert, Problem, Row};
 use frac128::{Frac, List, NoMemory, TooWide};
+use judgement_matrix::Matrix;
 use std::alloc::Global;
 use std::test::Fail;
 
@@ -20,6 +21,30 @@ fn described(alloc: Global, placed: &Placed) -> Result<String, NoMemory> {
             Ok(text)
         }
     }
+}
+
+// The certificate of a text, printed.
+fn printed(alloc: Global, text: &str) -> Result<String, Fail> {
+    let cert = read_cert(alloc, text.as_bytes()).map_err(|_| "no certificate")?;
+    Ok(print_cert(alloc, &cert)?)
+}
+
+// Whether it is the one that its own text is read as.
+fn reads_again(alloc: Global, text: &str) -> Result<bool, Fail> {
+    let cert = read_cert(alloc, text.as_bytes()).map_err(|_| "no certificate")?;
+    let again = read_printed(alloc, &cert).map_err(|_| "no memory")?;
+    Ok(
+        again.claim == cert.claim
+            && again.den == cert.den
+            && again.on.as_slice() == cert.on.as_slice(),
+    )
+}
+
+// Its entries by the rows of a matrix.
+fn placed(alloc: Global, matrix: &Matrix, text: &str) -> Result<String, Fail> {
+    let cert = read_cert(alloc, text.as_bytes()).map_err(|_| "no certificate")?;
+    let placed = place(alloc, matrix, &cert)?;
+    Ok(described(alloc, &placed)?)
 }
 
 // The rows of the matrix are lower 1 2, 1 3 and 2 3, and cross 1 2 2 3, 1 3 1 2 and 1 3 2 3.
@@ -49,13 +74,9 @@ fn texts(rt: HostRuntime) -> Result<(), Fail> {
         ("nothing rows 2\nlower 2 3 4\nzero 1 3 1\n", "no row 2"),
         ("nothing rows 2\ncross 1 2 1 3 1\nlower 1 9 1\n", "no row 1"),
     ] {
-        let cert = read_cert(alloc, text.as_bytes()).map_err(|_| "no certificate")?;
-        assert_eq!(rt; print_cert(alloc, &cert)?.as_str(), text);
-        let again = read_printed(alloc, &cert).map_err(|_| "no memory")?;
-        assert_eq!(rt; (again.claim, again.den), (cert.claim, cert.den));
-        assert_eq!(rt; again.on.as_slice(), cert.on.as_slice());
-        let placed = place(alloc, &matrix, &cert)?;
-        assert_eq!(rt; described(alloc, &placed)?.as_str(), want, "at {text}");
+        assert_eq!(rt; printed(alloc, text)?.as_str(), text);
+        assert!(rt; reads_again(alloc, text)?, "at {text}");
+        assert_eq!(rt; placed(alloc, &matrix, text)?.as_str(), want, "at {text}");
     }
     Ok(())
 }

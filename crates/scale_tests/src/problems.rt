@@ -16,7 +16,8 @@ fn judge(matrix: &mut Matrix, p: usize, q: usize, category: u8) -> Result<(), Fa
     Ok(())
 }
 
-// Three elements, with the categories of the first over the second, the first over the third and the second over the third.
+// Three elements, with the categories of the first over the second, the first over the third and the second over the
+// third.
 pub(crate) fn three(alloc: Global, categories: [u8; 3]) -> Result<Matrix, Fail>
     ensures { IfOk result (λ matrix. matrix.size ≡ 3) }
 {
@@ -87,11 +88,10 @@ Order(2) [0, 1, 0] 0
 Order(3) [1, 0, 0] 0
 ";
 
-#[test]
-fn rows_of_matrices(rt: HostRuntime) -> Result<(), Fail> {
-    let alloc = rt.alloc();
-    let judged = three(alloc, [3, 4, 2])?;
-    assert_eq!(rt; rows_text(alloc, &judged)?.as_str(), ROWS);
+// Four elements whose judgements no scale meets.
+fn hidden_conflict(alloc: Global) -> Result<Matrix, Fail>
+    ensures { IfOk result (λ matrix. matrix.size ≡ 4) }
+{
     let mut matrix = Matrix::new(alloc, 4)?;
     judge(&mut matrix, 1, 2, 3)?;
     judge(&mut matrix, 1, 3, 4)?;
@@ -99,11 +99,24 @@ fn rows_of_matrices(rt: HostRuntime) -> Result<(), Fail> {
     judge(&mut matrix, 2, 3, 1)?;
     judge(&mut matrix, 2, 4, 5)?;
     judge(&mut matrix, 3, 4, 2)?;
-    assert_eq!(rt; rows_text(alloc, &matrix)?.as_str(), HIDDEN_CONFLICT);
+    Ok(matrix)
+}
+
+#[test]
+fn rows_of_three(rt: HostRuntime) -> Result<(), Fail> {
+    let matrix = three(rt.alloc(), [3, 4, 2])?;
+    assert_eq!(rt; rows_text(rt.alloc(), &matrix)?.as_str(), ROWS);
     Ok(())
 }
 
-// The problem of three elements, the first two without difference: the costs, and behind each row's coefficients its bound.
+#[test]
+fn rows_of_a_hidden_conflict(rt: HostRuntime) -> Result<(), Fail> {
+    let matrix = hidden_conflict(rt.alloc())?;
+    assert_eq!(rt; rows_text(rt.alloc(), &matrix)?.as_str(), HIDDEN_CONFLICT);
+    Ok(())
+}
+
+// The problem of three elements, the first two without difference: the costs, and each row's coefficients and bound.
 const EQUALS: &str = "\
 [1, 1]
 [1, 1] 2
@@ -152,18 +165,36 @@ const CLOSED_BACK: &str = "\
 [-1, -1, -1] -1000
 ";
 
+fn equals_text(alloc: Global) -> Result<String, Fail> {
+    let matrix = three(alloc, [0, 2, 2])?;
+    let found = problem(alloc, &matrix)?;
+    problem_text(alloc, &found)
+}
+
+fn thresholds_text(alloc: Global) -> Result<String, Fail> {
+    let matrix = three(alloc, [3, 4, 2])?;
+    let found = threshold_problem(alloc, &matrix)?;
+    problem_text(alloc, &found)
+}
+
+fn closed_text(alloc: Global) -> Result<String, Fail> {
+    let matrix = three(alloc, [3, 4, 2])?;
+    let found = closed_problem(alloc, &matrix, 1, 3, 1000, 1, 2)?;
+    problem_text(alloc, &found)
+}
+
+fn closed_back_text(alloc: Global) -> Result<String, Fail> {
+    let matrix = three(alloc, [3, 4, 2])?;
+    let found = closed_problem(alloc, &matrix, 1, 3, 1000, 2, 1)?;
+    problem_text(alloc, &found)
+}
+
 #[test]
 fn problems(rt: HostRuntime) -> Result<(), Fail> {
     let alloc = rt.alloc();
-    let equals = three(alloc, [0, 2, 2])?;
-    let found = problem(alloc, &equals)?;
-    assert_eq!(rt; problem_text(alloc, &found)?.as_str(), EQUALS);
-    let judged = three(alloc, [3, 4, 2])?;
-    let found = threshold_problem(alloc, &judged)?;
-    assert_eq!(rt; problem_text(alloc, &found)?.as_str(), THRESHOLDS);
-    let found = closed_problem(alloc, &judged, 1, 3, 1000, 1, 2)?;
-    assert_eq!(rt; problem_text(alloc, &found)?.as_str(), CLOSED);
-    let found = closed_problem(alloc, &judged, 1, 3, 1000, 2, 1)?;
-    assert_eq!(rt; problem_text(alloc, &found)?.as_str(), CLOSED_BACK);
+    assert_eq!(rt; equals_text(alloc)?.as_str(), EQUALS);
+    assert_eq!(rt; thresholds_text(alloc)?.as_str(), THRESHOLDS);
+    assert_eq!(rt; closed_text(alloc)?.as_str(), CLOSED);
+    assert_eq!(rt; closed_back_text(alloc)?.as_str(), CLOSED_BACK);
     Ok(())
 }

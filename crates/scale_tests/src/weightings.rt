@@ -83,8 +83,8 @@ fn problem_of_two(rt: HostRuntime) -> Result<(), Fail> {
     Ok(())
 }
 
-// Unlike denominators; then one case that leaves the range at a difference, at the scale, at a numerator and at a sum, each before
-// one that just fits.
+// Unlike denominators; then one case that leaves the range at a difference, at the scale, at a numerator and at a sum,
+// each before one that just fits.
 #[test]
 fn costs_of_three(rt: HostRuntime) -> Result<(), Fail> {
     let order = last_first();
