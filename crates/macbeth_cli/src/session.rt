@@ -2,13 +2,14 @@
 ghost use Rattle.std.specs.Prelude.{◌≡◌, IfOk, true};
 ghost use Rattle.command_read.specs.Blocks.{held_of};
 ghost use Rattle.command_read.specs.Reading.{command_of};
+ghost use Rattle.report_text.specs.Reply.{IsPrintable, reply_text};
 ghost use Rattle.session_state.specs.State.{start_state};
 ghost use Rattle.macbeth_cli.specs.Session.{session_rules, parsed_entry, AnswersParsed, is_quit, ends_session, HasRefusal};
 ghost use Rattle.macbeth_cli.specs.SessionLaw.{session_total};
 
 use command_read::laws::readings;
 use command_read::{Block, Command, Parsed, read_command, takes_block};
-use report_text::text;
+use report_text::{Reply, text};
 use session_edits::{LINE_TOO_LONG, Session, refused};
 use std::alloc::Global;
 use std::marker::Model;
@@ -57,7 +58,9 @@ fn answer_entry(alloc: Global, session: &mut Session, entry: &Entry) -> Result<A
     ensures ends { IfOk result (λ answered. answered.ends ≡ is_quit (parsed_entry entry.now)) }
 {
     let parsed = read_entry(alloc, entry)?;
-    answer_parsed(alloc, session, &parsed)
+    let answered = answer_parsed(alloc, session, &parsed);
+    drop(parsed);
+    answered
 }
 
 /// What an entry asks for.
@@ -101,7 +104,7 @@ fn answer_parsed(
             ends: false,
         }),
         Parsed::Refused(number) => Ok(Answered {
-            text: text(alloc, &refused(*number))?.into_bytes(),
+            text: told(alloc, refused(*number))?,
             ends: false,
         }),
         Parsed::Do(command) => obey(alloc, session, command),
@@ -115,9 +118,18 @@ fn obey(alloc: Global, session: &mut Session, command: &Command) -> Result<Answe
     ensures ends { IfOk result (λ answered. answered.ends ≡ ends_session command.now) }
 {
     let reply = session.apply(command)?;
-    let text = text(alloc, &reply)?;
     Ok(Answered {
-        text: text.into_bytes(),
+        text: told(alloc, reply)?,
         ends: matches!(command, Command::Quit),
     })
+}
+
+/// The bytes of a reply.
+fn told(alloc: Global, reply: Reply) -> Result<Vec<u8>, NoMemory>
+    requires { IsPrintable reply }
+    ensures { IfOk result (λ bytes. bytes.items ≡ reply_text reply) }
+{
+    let text = text(alloc, &reply);
+    drop(reply);
+    Ok(text?.into_bytes())
 }

@@ -5,9 +5,9 @@ use Rattle.macbeth_cli.proofs.session.answer_entry.Goals as goal
 
 pub returns-clause-text : goal.returns-clause-text
 returns-clause-text c =
-    subst (λ p. IfOk c.answer_parsed.result (λ answered. AnswersParsed c.args.session.now p answered.text.items c.answer_parsed.new.session))
-    c.in_ok-parsed.ensures.parsed c.answer_parsed.ensures.text
+    subst (λ p. IfOk c.answer_parsed-answered.result (λ answered. AnswersParsed c.args.session.now p answered.text.items c.answer_parsed-answered.new.session))
+    c.in_ok-parsed.ensures.parsed c.answer_parsed-answered.ensures.text
 
 pub returns-clause-ends : goal.returns-clause-ends
 returns-clause-ends c =
-    subst (λ p. IfOk c.answer_parsed.result (λ answered. answered.ends ≡ is_quit p)) c.in_ok-parsed.ensures.parsed c.answer_parsed.ensures.ends
+    subst (λ p. IfOk c.answer_parsed-answered.result (λ answered. answered.ends ≡ is_quit p)) c.in_ok-parsed.ensures.parsed c.answer_parsed-answered.ensures.ends
