@@ -1,6 +1,6 @@
 ghost use Rattle.std.specs.Prelude.{None, Option, List, ℕ};
 
-use super::{ABC, ROOM, bytes_of, run_plainly};
+use super::{ABC, ROOM, bytes_of, run_into, told, told_from};
 use crate::run::run;
 use crate::words::words_of;
 use line_io::{Failed, MemSink, MemSource, NeverSink, NeverSource, Sink};
@@ -12,9 +12,9 @@ use transcript::Status;
 #[test]
 fn a_session_that_cannot_fail(rt: HostRuntime) -> Result<(), Fail> {
     let alloc = rt.alloc();
-    let mut source = NeverSource::make(bytes_of(alloc, &[ABC, "fits c 5 2 0\n"])?);
     let mut sink = NeverSink::make(alloc, 18)?;
-    assert_eq!(rt; run_plainly(alloc, &mut source, &mut sink), Status::Done);
+    let input = bytes_of(alloc, &[ABC, "fits c 5 2 0\n"])?;
+    assert_eq!(rt; run_into(alloc, input, &mut sink), Status::Done);
     assert_eq!(rt; sink.bytes(), b"ok\nok\nok\nok\nmeets\n".as_slice());
     Ok(())
 }
@@ -22,31 +22,35 @@ fn a_session_that_cannot_fail(rt: HostRuntime) -> Result<(), Fail> {
 #[test]
 fn a_read_that_fails(rt: HostRuntime) -> Result<(), Fail> {
     let alloc = rt.alloc();
-    let mut source = MemSource::make(bytes_of(alloc, &[ABC])?, 50, vec![in alloc; 2]?);
-    let mut sink = NeverSink::make(alloc, ROOM)?;
-    let status = run_plainly(alloc, &mut source, &mut sink);
+    let takes = vec![in alloc; 2]?;
+    let mut source = MemSource::make(bytes_of(alloc, &[ABC])?, 50, takes);
+    let (status, text) = told_from(alloc, &mut source)?;
     assert_eq!(rt; status, Status::ReadFault);
-    assert_eq!(rt; sink.bytes(), b"ok\nok\nok\n".as_slice());
+    assert_eq!(rt; text.as_slice(), b"ok\nok\nok\n".as_slice());
     Ok(())
 }
 
 #[test]
 fn a_write_that_fails(rt: HostRuntime) -> Result<(), Fail> {
     let alloc = rt.alloc();
-    let mut source = NeverSource::make(bytes_of(alloc, &[ABC])?);
     let mut sink = MemSink::make(alloc, 100, 64, vec![in alloc; 3]?)?;
-    let status = run_plainly(alloc, &mut source, &mut sink);
+    let status = run_into(alloc, bytes_of(alloc, &[ABC])?, &mut sink);
     assert_eq!(rt; status, Status::WriteFault);
     assert_eq!(rt; sink.bytes(), b"ok\nok\n".as_slice());
     Ok(())
 }
 
-#[test]
-fn words_that_are_not_known(rt: HostRuntime) -> Result<(), Fail> {
-    let alloc = rt.alloc();
+fn two_words(alloc: Global) -> Result<Vec<String>, Fail> {
     let mut words = Vec::new(alloc);
     words.push(String::from_str(alloc, "sample")?)?;
     words.push(String::from_str(alloc, "0")?)?;
+    Ok(words)
+}
+
+#[test]
+fn words_that_are_not_known(rt: HostRuntime) -> Result<(), Fail> {
+    let alloc = rt.alloc();
+    let words = two_words(alloc)?;
     let mut source = NeverSource::make(bytes_of(alloc, &[ABC])?);
     let mut sink = NeverSink::make(alloc, ROOM)?;
     let status = run(alloc, &words, &mut source, &mut sink);
@@ -56,19 +60,25 @@ fn words_that_are_not_known(rt: HostRuntime) -> Result<(), Fail> {
 }
 
 #[test]
-fn ends_of_input(rt: HostRuntime) -> Result<(), Fail> {
+fn an_empty_input(rt: HostRuntime) -> Result<(), Fail> {
     let alloc = rt.alloc();
-    let mut source = NeverSource::make(Vec::new(alloc));
-    let mut sink = NeverSink::make(alloc, ROOM)?;
-    assert_eq!(rt; run_plainly(alloc, &mut source, &mut sink), Status::Done);
-    assert_eq!(rt; sink.bytes(), b"".as_slice());
+    let (status, text) = told(alloc, Vec::new(alloc))?;
+    assert_eq!(rt; status, Status::Done);
+    assert_eq!(rt; text.as_slice(), b"".as_slice());
+    Ok(())
+}
 
+#[test]
+fn a_line_too_long(rt: HostRuntime) -> Result<(), Fail> {
+    let alloc = rt.alloc();
     let mut long = vec![in alloc; b'a'; 65_537]?;
     long.extend_from_slice(b"\nquit\n")?;
-    let mut source = NeverSource::make(long);
-    let mut sink = NeverSink::make(alloc, ROOM)?;
-    assert_eq!(rt; run_plainly(alloc, &mut source, &mut sink), Status::Done);
-    assert_eq!(rt; sink.bytes(), b"refused 1 line too long\nok\n".as_slice());
+    let (status, text) = told(alloc, long)?;
+    assert_eq!(rt; status, Status::Done);
+    assert_eq!(rt;
+        text.as_slice(),
+        b"refused 1 line too long\nok\n".as_slice()
+    );
     Ok(())
 }
 
@@ -92,9 +102,9 @@ impl Sink for Counting {
 #[test]
 fn a_reply_is_put_at_once(rt: HostRuntime) -> Result<(), Fail> {
     let alloc = rt.alloc();
-    let mut source = NeverSource::make(bytes_of(alloc, &[ABC, "fits c 4 2 0\n\n"])?);
     let mut sink = Counting { puts: 0 };
-    assert_eq!(rt; run_plainly(alloc, &mut source, &mut sink), Status::Done);
+    let input = bytes_of(alloc, &[ABC, "fits c 4 2 0\n\n"])?;
+    assert_eq!(rt; run_into(alloc, input, &mut sink), Status::Done);
     assert_eq!(rt; sink.puts, 5);
     Ok(())
 }

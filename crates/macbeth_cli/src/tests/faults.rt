@@ -1,5 +1,5 @@
-use super::{ROOM, run_plainly};
-use line_io::{MemSink, MemSource, NeverSink, NeverSource};
+use super::{ROOM, run_into, told_from};
+use line_io::{MemSink, MemSource};
 use std::alloc::Global;
 use std::test::Fail;
 use transcript::Status;
@@ -78,17 +78,15 @@ fn housing_output(alloc: Global, taken: usize) -> Result<Vec<u8>, Fail> {
 
 /// How the session ends, and what it writes, where this take of 7 bytes fails.
 fn housing_read(alloc: Global, fails: u64) -> Result<(Status, Vec<u8>), Fail> {
-    let mut source = MemSource::make(housing_input(alloc)?, 7, vec![in alloc; fails]?);
-    let mut sink = NeverSink::make(alloc, ROOM)?;
-    let status = run_plainly(alloc, &mut source, &mut sink);
-    Ok((status, Vec::from_slice(alloc, sink.bytes())?))
+    let takes = vec![in alloc; fails]?;
+    let mut source = MemSource::make(housing_input(alloc)?, 7, takes);
+    told_from(alloc, &mut source)
 }
 
 /// The same where this put of 5 bytes fails.
 fn housing_write(alloc: Global, fails: u64) -> Result<(Status, Vec<u8>), Fail> {
-    let mut source = NeverSource::make(housing_input(alloc)?);
     let mut sink = MemSink::make(alloc, ROOM, 5, vec![in alloc; fails]?)?;
-    let status = run_plainly(alloc, &mut source, &mut sink);
+    let status = run_into(alloc, housing_input(alloc)?, &mut sink);
     Ok((status, Vec::from_slice(alloc, sink.bytes())?))
 }
 

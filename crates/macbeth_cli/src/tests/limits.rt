@@ -1,16 +1,7 @@
-use super::{ABC, ABC_REPLIES, ROOM, bytes_of, run_plainly};
-use line_io::{NeverSink, NeverSource};
+use super::{ABC, ABC_REPLIES, bytes_of, told};
 use std::alloc::Global;
 use std::test::Fail;
 use transcript::Status;
-
-/// What a session of this input writes, and how it ends.
-fn answered(alloc: Global, input: Vec<u8>) -> Result<(Status, Vec<u8>), Fail> {
-    let mut source = NeverSource::make(input);
-    let mut sink = NeverSink::make(alloc, ROOM)?;
-    let status = run_plainly(alloc, &mut source, &mut sink);
-    Ok((status, Vec::from_slice(alloc, sink.bytes())?))
-}
 
 /// Adds a text so many times.
 fn repeat(bytes: &mut Vec<u8>, text: &[u8], count: usize) -> Result<(), Fail> {
@@ -46,7 +37,7 @@ fn undo_depth(rt: HostRuntime) -> Result<(), Fail> {
     let mut output = Vec::new(alloc);
     repeat(&mut output, b"ok\n", 65)?;
     output.extend_from_slice(b"refused 20 nothing to undo\nrefused 11 name taken\nok\n")?;
-    let (status, text) = answered(alloc, input)?;
+    let (status, text) = told(alloc, input)?;
     assert_eq!(rt; status, Status::Done);
     assert_eq!(rt; text.as_slice(), output.as_slice());
     Ok(())
@@ -60,7 +51,7 @@ fn an_option_too_many(rt: HostRuntime) -> Result<(), Fail> {
     let mut output = Vec::new(alloc);
     repeat(&mut output, b"ok\n", 64)?;
     output.extend_from_slice(b"refused 12 limit reached\n")?;
-    let (status, text) = answered(alloc, input)?;
+    let (status, text) = told(alloc, input)?;
     assert_eq!(rt; status, Status::Done);
     assert_eq!(rt; text.as_slice(), output.as_slice());
     Ok(())
@@ -73,7 +64,7 @@ fn long_lines(rt: HostRuntime) -> Result<(), Fail> {
     input.extend_from_slice(b"\nweigh-order")?;
     repeat(&mut input, b" c", 27_000)?;
     input.extend_from_slice(b"\nquit\n")?;
-    let (status, text) = answered(alloc, input)?;
+    let (status, text) = told(alloc, input)?;
     assert_eq!(rt; status, Status::Done);
     assert_eq!(rt;
         text.as_slice(),
@@ -87,7 +78,7 @@ fn answered_block(alloc: Global, line: &str, count: usize, end: &str) -> Result<
     let mut input = bytes_of(alloc, &[ABC, line])?;
     add_full_lines(alloc, &mut input, count)?;
     input.extend_from_slice(end.as_bytes())?;
-    let (_, text) = answered(alloc, input)?;
+    let (_, text) = told(alloc, input)?;
     Ok(Vec::from_slice(alloc, text.get(ABC_REPLIES.len()..).unwrap_or(&[]))?)
 }
 

@@ -1,7 +1,6 @@
 //! The worked sessions.
 use super::table::hold;
-use super::{ABC, ABC_REPLIES, ROOM, bytes_of, run_plainly};
-use line_io::{NeverSink, NeverSource};
+use super::{ABC, ABC_REPLIES, bytes_of, told};
 use std::alloc::Global;
 use std::test::Fail;
 
@@ -630,10 +629,8 @@ fn sessions_from_the_start(rt: HostRuntime) -> Result<(), Fail> {
 fn asked(alloc: Global, judged: &str, edits: usize, more: &[u8]) -> Result<Vec<u8>, Fail> {
     let mut input = bytes_of(alloc, &[judged])?;
     input.extend_from_slice(more)?;
-    let mut source = NeverSource::make(input);
-    let mut sink = NeverSink::make(alloc, ROOM)?;
-    run_plainly(alloc, &mut source, &mut sink);
-    Ok(Vec::from_slice(alloc, sink.bytes().get(edits..).unwrap_or(&[]))?)
+    let (_, text) = told(alloc, input)?;
+    Ok(Vec::from_slice(alloc, text.get(edits..).unwrap_or(&[]))?)
 }
 
 /// Lines behind the judged criterion, and how the replies to them end.
