@@ -2,7 +2,7 @@
 ghost use Rattle.std.specs.Prelude.{◌≡◌, IfOk, length, string_bytes};
 ghost use Rattle.report_text.specs.Matrices.{IsShiftOf};
 ghost use Rattle.report_text.specs.Refusals.{IsRefusal};
-ghost use Rattle.report_text.specs.Reply.{reply_text};
+ghost use Rattle.report_text.specs.Reply.{IsPrintable, reply_text};
 
 use frac128::{Frac, List};
 use judgement_matrix::Shift;
@@ -32,10 +32,20 @@ fn pair_of(alloc: Global, first: &str, second: &str) -> Result<(Name, Name), Fai
     Ok((first, name_of(alloc, second)?))
 }
 
+// What is written for a reply.
+fn printed(alloc: Global, reply: Reply) -> Result<String, NoMemory>
+    requires { IsPrintable reply }
+    ensures { IfOk result (λ text. string_bytes text ≡ reply_text reply) }
+{
+    let text = text(alloc, &reply);
+    drop(reply);
+    text
+}
+
 #[test]
 fn consistent(rt: HostRuntime) -> Result<(), Fail> {
     assert_eq!(rt;
-        text(rt.alloc(), &Reply::Consistent)?.as_str(),
+        printed(rt.alloc(), Reply::Consistent)?.as_str(),
         "consistent\n"
     );
     Ok(())
@@ -46,7 +56,7 @@ fn refused(alloc: Global, number: u8, detail: Detail) -> Result<String, NoMemory
     requires { IsRefusal number }
     ensures { IfOk result (λ text. string_bytes text ≡ reply_text (Reply.Refused number detail)) }
 {
-    text(alloc, &Reply::Refused { number, detail })
+    printed(alloc, Reply::Refused { number, detail })
 }
 
 #[test]
@@ -84,7 +94,7 @@ fn dominances(rt: HostRuntime) -> Result<(), Fail> {
     let pairs = [pair_of(alloc, "a", "b")?, pair_of(alloc, "c", "b")?];
     let pairs = List::make(Vec::from_array(alloc, pairs)?);
     assert_eq!(rt;
-        text(alloc, &Reply::Dominances { pairs })?.as_str(),
+        printed(alloc, Reply::Dominances { pairs })?.as_str(),
         "dominances 2\n\"a\" \"b\"\n\"c\" \"b\"\n"
     );
     Ok(())
@@ -117,9 +127,9 @@ fn repaired(alloc: Global, total: u8, first: [i8; 3], second: [i8; 3]) -> Result
     let second = shift(alloc, second)?;
     let shifts = List::make(vec![in alloc; first, second]?);
     let names = three_names(alloc)?;
-    Ok(text(
+    Ok(printed(
         alloc,
-        &Reply::Repairs {
+        Reply::Repairs {
             names,
             total,
             shifts,
@@ -194,6 +204,6 @@ fn not(rt: HostRuntime) -> Result<(), Fail> {
         scales,
         weights,
     };
-    assert_eq!(rt; text(rt.alloc(), &reply)?.as_str(), NOT);
+    assert_eq!(rt; printed(rt.alloc(), reply)?.as_str(), NOT);
     Ok(())
 }

@@ -1,7 +1,7 @@
 //! Certificates of dominance.
-use super::{name_of, ratio};
+use super::{name_of, printed, ratio};
 use frac128::{Frac, List};
-use report_text::{Head, OpenTag, Part, Reply, text};
+use report_text::{Head, OpenTag, Part, Reply};
 use std::alloc::Global;
 use std::test::Fail;
 
@@ -9,7 +9,7 @@ use std::test::Fail;
 fn dominates(rt: HostRuntime) -> Result<(), Fail> {
     let least = ratio(7, 2)?;
     assert_eq!(rt;
-        text(rt.alloc(), &Reply::Dominates { least })?.as_str(),
+        printed(rt.alloc(), Reply::Dominates { least })?.as_str(),
         "dominates 7/2\n"
     );
     Ok(())
@@ -84,7 +84,7 @@ fn dominance(rt: HostRuntime) -> Result<(), Fail> {
         ],
     )?;
     assert_eq!(rt;
-        text(rt.alloc(), &Reply::DomCert { least, parts })?.as_str(),
+        printed(rt.alloc(), Reply::DomCert { least, parts })?.as_str(),
         DOMINANCE
     );
     Ok(())
@@ -106,7 +106,7 @@ fn one_part(
         on,
     };
     let parts = List::make(vec![in alloc; part]?);
-    Ok(text(alloc, &Reply::DomCert { least, parts })?)
+    Ok(printed(alloc, Reply::DomCert { least, parts })?)
 }
 
 #[test]
