@@ -1,3 +1,5 @@
+ghost use Rattle.std.specs.Prelude.{◌≤◌};
+
 use crate::problems::three;
 use cert_check::{
     CertFault, Place, Placed, Verdict, check_dual, check_farkas, place, print_cert, read_cert,
@@ -41,7 +43,9 @@ fn reads_again(alloc: Global, text: &str) -> Result<bool, Fail> {
 }
 
 // Its entries by the rows of a matrix.
-fn placed(alloc: Global, matrix: &Matrix, text: &str) -> Result<String, Fail> {
+fn placed(alloc: Global, matrix: &Matrix, text: &str) -> Result<String, Fail>
+    requires { 2 ≤ matrix.now.size }
+{
     let cert = read_cert(alloc, text.as_bytes()).map_err(|_| "no certificate")?;
     let placed = place(alloc, matrix, &cert)?;
     Ok(described(alloc, &placed)?)
