@@ -9,6 +9,7 @@ use frac128::problem::{Cert, Problem, Row};
 use frac128::{Frac, List, NoMemory, TooWide};
 use judgement_matrix::Matrix;
 use std::alloc::Global;
+use std::process::Abort;
 use std::test::Fail;
 
 // The denominator and the entries, or the first entry whose tag is no row.
@@ -51,6 +52,22 @@ fn placed(alloc: Global, matrix: &Matrix, text: &str) -> Result<String, Fail>
     Ok(described(alloc, &placed)?)
 }
 
+// A certificate's text that reads back, and its entries by the rows of a matrix.
+fn hold_text<A: Abort>(
+    rt: &A,
+    alloc: Global,
+    matrix: &Matrix,
+    text: &str,
+    want: &str,
+) -> Result<(), Fail>
+    requires { 2 ≤ matrix.now.size }
+{
+    assert_eq!(rt; printed(alloc, text)?.as_str(), text);
+    assert!(rt; reads_again(alloc, text)?, "at {text}");
+    assert_eq!(rt; placed(alloc, matrix, text)?.as_str(), want, "at {text}");
+    Ok(())
+}
+
 // The rows of the matrix are lower 1 2, 1 3 and 2 3, and cross 1 2 2 3, 1 3 1 2 and 1 3 2 3.
 #[test]
 fn texts(rt: HostRuntime) -> Result<(), Fail> {
@@ -78,9 +95,7 @@ fn texts(rt: HostRuntime) -> Result<(), Fail> {
         ("nothing rows 2\nlower 2 3 4\nzero 1 3 1\n", "no row 2"),
         ("nothing rows 2\ncross 1 2 1 3 1\nlower 1 9 1\n", "no row 1"),
     ] {
-        assert_eq!(rt; printed(alloc, text)?.as_str(), text);
-        assert!(rt; reads_again(alloc, text)?, "at {text}");
-        assert_eq!(rt; placed(alloc, &matrix, text)?.as_str(), want, "at {text}");
+        hold_text(&rt, alloc, &matrix, text, want)?;
     }
     Ok(())
 }
