@@ -1,6 +1,6 @@
 //! Texts of certificates.
 ghost use Rattle.std.specs.Prelude.{◌≡◌, ◌++◌, ◌∷◌, [], codes, map, length};
-ghost use Rattle.std.specs.Fmt.{decimal};
+ghost use Rattle.std.specs.Fmt.{decimal, signed_decimal};
 ghost use Rattle.std.specs.List.{flat_map};
 ghost use Rattle.frac128.specs.Text.{frac_text};
 ghost use Rattle.cert_check.specs.Text.{IsPrintable as HasCertText};
@@ -156,6 +156,12 @@ fn push_claim(alloc: Global, out: &mut String, value: Frac, den: &i128) -> Resul
 {
     out.push_str(" least ")?;
     push_frac(alloc, out, &value)?;
+    push_den(alloc, out, den)
+}
+
+fn push_den(alloc: Global, out: &mut String, den: &i128) -> Result<(), NoMemory>
+    ensures { Adds result out.old out.new (codes " den " ++ signed_decimal den.now ++ codes " rows") }
+{
     out.push_str(" den ")?;
     push_signed(alloc, out, *den)?;
     out.push_str(" rows")
@@ -165,12 +171,23 @@ fn push_entries(alloc: Global, out: &mut String, on: &[(OpenTag, i128)]) -> Resu
     ensures { Adds result out.old out.new (lines_text (map open_line on.now)) }
 {
     for (tag, multiplier) in on {
-        push_open_tag(alloc, out, *tag)?;
-        out.push_str(" ")?;
-        push_signed(alloc, out, *multiplier)?;
-        push_newline(out)?;
+        push_entry(alloc, out, *tag, multiplier)?;
     }
     Ok(())
+}
+
+fn push_entry(
+    alloc: Global,
+    out: &mut String,
+    tag: OpenTag,
+    multiplier: &i128,
+) -> Result<(), NoMemory>
+    ensures { Adds result out.old out.new (lines_text (open_line (tag, multiplier.now) ∷ [])) }
+{
+    push_open_tag(alloc, out, tag)?;
+    out.push_str(" ")?;
+    push_signed(alloc, out, *multiplier)?;
+    push_newline(out)
 }
 
 fn push_open_tag(alloc: Global, out: &mut String, tag: OpenTag) -> Result<(), NoMemory>

@@ -1,6 +1,7 @@
 //! Texts of matrices, their rows and their repairs.
 ghost use Rattle.std.specs.Prelude.{◌≡◌, ◌≤◌, ◌++◌, ◌∷◌, [], ℕ, codes, length, map, All};
 ghost use Rattle.std.specs.List.{zip, flat_map};
+ghost use Rattle.model_core.specs.Categories.{range_text};
 ghost use Rattle.report_text.specs.Lines.{Adds, lines_text};
 ghost use Rattle.report_text.specs.Names.{quoted, tag_words, IsTagOf};
 ghost use Rattle.report_text.specs.Matrices.{judged_line, matrix_lines, row_line, rows_lines, pairs_of, step_words, shift_line, repairs_heading, repairs_lines, IsJudgedOf, IsShiftOf};
@@ -51,13 +52,31 @@ fn push_judged(
     ensures { Adds result out.old out.new (lines_text (map (judged_line names.now) judged.now)) }
 {
     for (p, q, range) in judged {
-        let text = range_text(alloc, *range)?;
-        push_pair(out, names, *p, *q)?;
-        out.push_str(" ")?;
-        out.push_str(text.as_str())?;
-        push_newline(out)?;
+        push_judged_line(alloc, out, names, (*p, *q, *range))?;
     }
     Ok(())
+}
+
+fn push_judged_line(
+    alloc: Global,
+    out: &mut String,
+    names: &[Name],
+    judged: (usize, usize, Range),
+) -> Result<(), NoMemory>
+    requires { IsJudgedOf (length names.now) judged }
+    ensures { Adds result out.old out.new (lines_text (judged_line names.now judged ∷ [])) }
+{
+    push_pair(out, names, judged.0, judged.1)?;
+    out.push_str(" ")?;
+    push_range(alloc, out, judged.2)?;
+    push_newline(out)
+}
+
+fn push_range(alloc: Global, out: &mut String, range: Range) -> Result<(), NoMemory>
+    ensures { Adds result out.old out.new (range_text range) }
+{
+    let text = range_text(alloc, range)?;
+    out.push_str(text.as_str())
 }
 
 /// The constraint that fails.
@@ -94,12 +113,25 @@ fn push_row_lines(
     ensures { Adds result out.old out.new (lines_text (map (row_line names.now) rows.now)) }
 {
     for (tag, bound) in rows {
-        push_tag(out, names, *tag)?;
-        out.push_str(" ")?;
-        push_signed(alloc, out, *bound)?;
-        push_newline(out)?;
+        push_row(alloc, out, names, *tag, bound)?;
     }
     Ok(())
+}
+
+fn push_row(
+    alloc: Global,
+    out: &mut String,
+    names: &[Name],
+    constraint: Tag,
+    bound: &i128,
+) -> Result<(), NoMemory>
+    requires { IsTagOf (length names.now) constraint }
+    ensures { Adds result out.old out.new (lines_text (row_line names.now (constraint, bound.now) ∷ [])) }
+{
+    push_tag(out, names, constraint)?;
+    out.push_str(" ")?;
+    push_signed(alloc, out, *bound)?;
+    push_newline(out)
 }
 
 /// The repairs, and by how much each of them moves in all.
@@ -126,7 +158,6 @@ fn push_total(alloc: Global, out: &mut String, total: u8) -> Result<(), NoMemory
     out.push_str(" count")
 }
 
-#[tactic(auto, using(crate::proofs::PairLemmas::pair_count))]
 fn push_shifts(
     alloc: Global,
     out: &mut String,
@@ -137,11 +168,24 @@ fn push_shifts(
     ensures { Adds result out.old out.new (lines_text (map (shift_line names.now) shifts.now)) }
 {
     for shift in shifts {
-        out.push_str("shift")?;
-        push_steps(alloc, out, names, shift.by.as_slice())?;
-        push_newline(out)?;
+        push_shift(alloc, out, names, shift)?;
     }
     Ok(())
+}
+
+#[tactic(auto, using(crate::proofs::PairLemmas::pair_count))]
+fn push_shift(
+    alloc: Global,
+    out: &mut String,
+    names: &[Name],
+    shift: &Shift,
+) -> Result<(), NoMemory>
+    requires { IsShiftOf (length names.now) shift.now }
+    ensures { Adds result out.old out.new (lines_text (shift_line names.now shift.now ∷ [])) }
+{
+    out.push_str("shift")?;
+    push_steps(alloc, out, names, shift.by.as_slice())?;
+    push_newline(out)
 }
 
 /// Each pair that moves, and by how much.

@@ -5,7 +5,7 @@ use judgement_matrix::{Range, Shift, Tag};
 use model_core::{Name, Pointer, Text};
 
 /// What a refusal says besides its number.
-#[derive(Debug, Drop)]
+#[derive(Drop)]
 pub enum Detail {
     /// Nothing.
     None,
@@ -28,7 +28,7 @@ pub enum Detail {
 }
 
 /// Whose least gap a part of a dominance certificate is about.
-#[derive(Debug, Drop)]
+#[derive(Drop)]
 pub enum Head {
     /// The open scales of this criterion.
     Criterion(Name),
@@ -58,7 +58,7 @@ pub enum OpenTag {
 }
 
 /// One part of a dominance certificate.
-#[derive(Debug, Drop)]
+#[derive(Drop)]
 pub struct Part {
     /// What it is about.
     pub head: Head,
@@ -71,7 +71,7 @@ pub struct Part {
 }
 
 /// What a session answers to a command.
-#[derive(Debug, Drop)]
+#[derive(Drop)]
 pub enum Reply {
     /// The command was accepted.
     Ok,

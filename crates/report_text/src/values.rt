@@ -197,11 +197,17 @@ fn push_weights(alloc: Global, out: &mut String, weights: &[(Name, Frac)]) -> Re
     ensures { Adds result out.old out.new (lines_text (map weight_line weights.now)) }
 {
     for (name, value) in weights {
-        out.push_str("weight ")?;
-        push_value(alloc, out, name, value)?;
-        push_newline(out)?;
+        push_weight(alloc, out, name, value)?;
     }
     Ok(())
+}
+
+fn push_weight(alloc: Global, out: &mut String, name: &Name, value: &Frac) -> Result<(), NoMemory>
+    ensures { Adds result out.old out.new (lines_text (weight_line (name.now, value.now) ∷ [])) }
+{
+    out.push_str("weight ")?;
+    push_value(alloc, out, name, value)?;
+    push_newline(out)
 }
 
 /// What each group adds, and the score.

@@ -68,14 +68,22 @@ pub(crate) fn push_tag(out: &mut String, names: &[Name], tag: Tag) -> Result<(),
         Tag::Cross(p, q, x, y) => {
             out.push_str("cross ")?;
             push_positions(out, names, p, q)?;
-            out.push_str(" over ")?;
-            push_positions(out, names, x, y)
+            push_lower_pair(out, names, x, y)
         }
         Tag::Order(p) => {
             out.push_str("order ")?;
             push_quoted(out, &names[usize::from(p) - 1])
         }
     }
+}
+
+fn push_lower_pair(out: &mut String, names: &[Name], p: u8, q: u8) -> Result<(), NoMemory>
+    requires upper { IsPlace (length names.now) p }
+    requires lower { IsPlace (length names.now) q }
+    ensures { Adds result out.old out.new (codes " over " ++ pair_words names.now p q) }
+{
+    out.push_str(" over ")?;
+    push_positions(out, names, p, q)
 }
 
 pub(crate) fn push_number(alloc: Global, out: &mut String, number: u64) -> Result<(), NoMemory>
