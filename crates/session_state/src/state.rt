@@ -1,5 +1,6 @@
 //! The state of a session.
 ghost use Rattle.std.specs.Prelude.{◌≡◌, length, IfOk, IfSome, OnOk, OnErr};
+ghost use Rattle.model_core.specs.State.{empty_model};
 ghost use Rattle.session_state.specs.State.{AreResults, Undoes, start_state, changed, with_results};
 
 use crate::history::History;
@@ -36,13 +37,28 @@ impl State {
     pub fn start(alloc: Global) -> Result<State, NoMemory>
         ensures { IfOk result (λ state. state ≡ start_state) }
     {
-        Ok(State {
-            alloc,
-            model: Model::empty(alloc)?,
-            spare: None,
-            history: History::new(alloc)?,
-            results: Results::new(alloc),
-        })
+        let model = Model::empty(alloc)?;
+        State::of(alloc, model)
+    }
+
+    // The same with its empty model.
+    fn of(alloc: Global, model: Model) -> Result<State, NoMemory>
+        requires { model ≡ empty_model }
+        ensures { IfOk result (λ state. state ≡ start_state) }
+    {
+        match History::new(alloc) {
+            Ok(history) => Ok(State {
+                alloc,
+                model,
+                spare: None,
+                history,
+                results: Results::new(alloc),
+            }),
+            Err(fault) => {
+                drop(model);
+                Err(fault)
+            }
+        }
     }
 
     /// The model.
@@ -84,7 +100,7 @@ impl State {
         requires { model ≡ self.old.model }
         ensures { self.new ≡ self.old }
     {
-        self.spare = Some(model);
+        drop(self.spare.replace(model));
     }
 
     /// Goes on to another model, as after an edit. The present one goes on the history.
@@ -92,10 +108,17 @@ impl State {
         ensures ok { OnOk result (self.new ≡ changed self.old after) }
         ensures err { OnErr result (self.new ≡ self.old) }
     {
-        let results = self.results.carried(self.alloc, &self.model, &after)?;
-        let before = self.enter(after, results);
-        self.history.push(before);
-        Ok(())
+        match self.results.carried(self.alloc, &self.model, &after) {
+            Ok(results) => {
+                let before = self.enter(after, results);
+                self.history.push(before);
+                Ok(())
+            }
+            Err(fault) => {
+                drop(after);
+                Err(fault)
+            }
+        }
     }
 
     /// Goes back to the newest model of the history, if there is one. Says whether there was.
@@ -107,7 +130,7 @@ impl State {
         };
         let results = self.results.carried(self.alloc, &self.model, before)?;
         let before = self.history.take_newest().unwrap();
-        self.enter(before, results);
+        drop(self.enter(before, results));
         Ok(true)
     }
 
@@ -125,8 +148,8 @@ impl State {
         ensures before { result ≡ self.old.model }
         ensures now { self.new ≡ record self.old { model = after; results = kept } }
     {
-        self.spare = spare_of(&after);
-        self.results = kept;
+        drop(mem::replace(&mut self.spare, spare_of(&after)));
+        drop(mem::replace(&mut self.results, kept));
         mem::replace(&mut self.model, after)
     }
 }
