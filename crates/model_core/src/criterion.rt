@@ -135,6 +135,15 @@ impl Criterion {
     {
         self.group
     }
+
+    // Its name and its elements, copied.
+    fn copied_names(&self) -> Result<(Name, Roster<Name>), NoMemory>
+        ensures name { IfOk result (λ copy. copy.0 ≡ self.now.name) }
+        ensures elements { IfOk result (λ copy. copy.1 ≡ self.now.elements) }
+    {
+        let name = self.name.copy()?;
+        Ok((name, self.elements.copy()?))
+    }
 }
 
 impl Named for Criterion {
@@ -145,12 +154,14 @@ impl Named for Criterion {
     }
 
     fn copy(&self) -> Result<Criterion, NoMemory> {
+        let matrix = self.matrix.copy()?;
+        let (name, elements) = self.copied_names()?;
         Ok(Criterion {
-            name: self.name.copy()?,
-            elements: self.elements.copy()?,
+            name,
+            elements,
             good: self.good,
             neutral: self.neutral,
-            matrix: self.matrix.copy()?,
+            matrix,
             reach: self.reach,
             group: self.group,
         })

@@ -42,13 +42,14 @@ impl Model {
     pub fn empty(alloc: Global) -> Result<Model, NoMemory>
         ensures { IfOk result (λ m. m ≡ empty_model) }
     {
+        let weighting = Matrix::new(alloc, 1)?;
         Ok(Model {
             options: Roster::new(alloc),
             criteria: Roster::new(alloc),
             groups: Roster::new(alloc),
             rows: Vec::new(alloc),
             order: Vec::new(alloc),
-            weighting: Matrix::new(alloc, 1)?,
+            weighting,
         })
     }
 

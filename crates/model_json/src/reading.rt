@@ -21,8 +21,13 @@ pub(crate) fn read_model(alloc: Global, value: &Value) -> Result<Model, Stop>
     ensures { Gives (λ model. model) result (model_of (view value.now)) }
 {
     let mut model = Model::empty(alloc)?;
-    read_all(alloc, &mut model, value)?;
-    Ok(model)
+    match read_all(alloc, &mut model, value) {
+        Ok(()) => Ok(model),
+        Err(stop) => {
+            drop(model);
+            Err(stop)
+        }
+    }
 }
 
 // Adds to an empty model what a value holds.
