@@ -85,7 +85,7 @@ pub(crate) fn number_of(fault: EditFault) -> u8
 }
 
 /// Why a reply isn't worked to its end.
-#[derive(Debug, Drop)]
+#[derive(Drop)]
 pub(crate) enum Stop {
     /// The command is refused so.
     Refused(Reply),
