@@ -1,4 +1,4 @@
-ghost use Rattle.std.specs.Prelude.{None, Option, List, ℕ};
+ghost use Rattle.std.specs.Prelude.{◌≤◌, None, Option, List, ℕ};
 
 use line_io::*;
 use std::alloc::{AllocError, Global};
@@ -37,11 +37,38 @@ fn answers<S: Source>(alloc: Global, source: &mut S, calls: usize) -> Result<Vec
     Ok(out)
 }
 
+/// The same of these bytes in pieces of this length, where these calls fail.
+fn answers_of(
+    alloc: Global,
+    input: &[u8],
+    piece: usize,
+    fails: &[u64],
+    calls: usize,
+) -> Result<Vec<u8>, AllocError>
+    requires { 1 ≤ piece }
+{
+    let input = input.to_vec(alloc)?;
+    let mut source = MemSource::make(input, piece, fails.to_vec(alloc)?);
+    answers(alloc, &mut source, calls)
+}
+
+/// The same where no call fails.
+fn sure_answers(alloc: Global, input: &[u8], calls: usize) -> Result<Vec<u8>, AllocError> {
+    let mut source = NeverSource::make(input.to_vec(alloc)?);
+    answers(alloc, &mut source, calls)
+}
+
 /// So many bytes, and then these.
 fn long_line(alloc: Global, count: usize, end: &[u8]) -> Result<Vec<u8>, AllocError> {
     let mut bytes = vec![in alloc; b'x'; count]?;
     bytes.extend_from_slice(end)?;
     Ok(bytes)
+}
+
+/// What three calls answer of so many bytes, and then these.
+fn long_answers(alloc: Global, count: usize, end: &[u8]) -> Result<Vec<u8>, AllocError> {
+    let bytes = long_line(alloc, count, end)?;
+    answers_of(alloc, &bytes, 4_096, &[], 3)
 }
 
 #[test]
@@ -56,12 +83,10 @@ fn short_lines(rt: HostRuntime) -> Result<(), Fail> {
         (b"\r".as_slice(), b"|...".as_slice()),
     ] {
         for piece in [1, 3, 4_096] {
-            let mut source = MemSource::make(input.to_vec(alloc)?, piece, Vec::new(alloc));
-            let found = answers(alloc, &mut source, 4)?;
+            let found = answers_of(alloc, input, piece, &[], 4)?;
             assert_eq!(rt; found.as_slice(), want);
         }
-        let mut source = NeverSource::make(input.to_vec(alloc)?);
-        let found = answers(alloc, &mut source, 4)?;
+        let found = sure_answers(alloc, input, 4)?;
         assert_eq!(rt; found.as_slice(), want);
     }
     Ok(())
@@ -77,8 +102,7 @@ fn long_lines(rt: HostRuntime) -> Result<(), Fail> {
         (65_536, b"\r\nb".as_slice(), b"65537!b|.".as_slice()),
         (200_000, b"".as_slice(), b"200000!..".as_slice()),
     ] {
-        let mut source = MemSource::make(long_line(alloc, count, end)?, 4_096, Vec::new(alloc));
-        let found = answers(alloc, &mut source, 3)?;
+        let found = long_answers(alloc, count, end)?;
         assert_eq!(rt; found.as_slice(), want);
     }
     Ok(())
@@ -86,11 +110,7 @@ fn long_lines(rt: HostRuntime) -> Result<(), Fail> {
 
 #[test]
 fn a_take_that_fails(rt: HostRuntime) -> Result<(), Fail> {
-    let alloc = rt.alloc();
-    let mut fails = Vec::new(alloc);
-    fails.push(2)?;
-    let mut source = MemSource::make(b"a\nbc\nd".to_vec(alloc)?, 3, fails);
-    let found = answers(alloc, &mut source, 4)?;
+    let found = answers_of(rt.alloc(), b"a\nbc\nd", 3, &[2], 4)?;
     assert_eq!(rt; found.as_slice(), b"a|ReadReadRead".as_slice());
     Ok(())
 }

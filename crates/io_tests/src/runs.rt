@@ -3,7 +3,7 @@ ghost use Rattle.transcript.specs.Tally.{tally_rules, tally_text, tally_quits, n
 ghost use Rattle.transcript.specs.TallyLaw.{tally_total};
 
 use line_io::{MemSink, MemSource, NeverSink, NeverSource, Sink, Source};
-use std::alloc::Global;
+use std::alloc::{AllocError, Global};
 use std::marker::Model;
 use std::test::Fail;
 use transcript::*;
@@ -159,10 +159,18 @@ fn block_of(
     Ok(bytes)
 }
 
+/// The end of a run over these bytes, the length of what was written, and whether it ends so.
+fn written(alloc: Global, bytes: Vec<u8>, last: &[u8]) -> Result<(Status, usize, bool), Fail> {
+    let mut sink = MemSink::make(alloc, 2_000_000, 65_536, Vec::new(alloc))?;
+    let mut source = NeverSource::make(bytes);
+    let status = run_entries::<Tally, NeverSource, MemSink>(alloc, &mut source, &mut sink);
+    Ok((status, sink.bytes().len(), sink.bytes().ends_with(last)))
+}
+
 #[test]
 fn limits(rt: HostRuntime) -> Result<(), Fail> {
     let alloc = rt.alloc();
-    for (count, len, end, rest, written, last) in [
+    for (count, len, end, rest, length, last) in [
         // 16 times 65,536 bytes are the limit, with or without carriage returns.
         (
             16,
@@ -222,39 +230,60 @@ fn limits(rt: HostRuntime) -> Result<(), Fail> {
             b"ut\n".as_slice(),
         ),
     ] {
-        let mut source = NeverSource::make(block_of(alloc, count, len, end, rest)?);
-        let mut sink = MemSink::make(alloc, 2_000_000, 65_536, Vec::new(alloc))?;
-        let status = run_entries::<Tally, NeverSource, MemSink>(alloc, &mut source, &mut sink);
-        assert_eq!(rt; status, Status::Done);
-        assert_eq!(rt; sink.bytes().len(), written);
-        assert!(rt; sink.bytes().ends_with(last));
+        let block = block_of(alloc, count, len, end, rest)?;
+        let found = written(alloc, block, last)?;
+        assert_eq!(rt; found, (Status::Done, length, true));
     }
     Ok(())
+}
+
+/// Adds what a reader finds: a line and a bar, a line with a block in brackets, a point for the end, and its name for a fault.
+fn add_next(
+    out: &mut Vec<u8>,
+    reader: &mut Reader,
+    source: &mut MemSource,
+) -> Result<(), AllocError> {
+    match reader.next::<Tally, MemSource>(source) {
+        Ok(Next::Found) => add_entry(out, reader.entry().shape()),
+        Ok(Next::End) => out.extend_from_slice(b"."),
+        Err(EntryFault::Read) => out.extend_from_slice(b"Read"),
+        Err(_) => out.extend_from_slice(b"another fault"),
+    }
+}
+
+fn add_entry(out: &mut Vec<u8>, shape: Shape) -> Result<(), AllocError> {
+    match shape {
+        Shape::Line(line) => {
+            out.extend_from_slice(line)?;
+            out.extend_from_slice(b"|")
+        }
+        Shape::Whole(line, block) => {
+            out.extend_from_slice(line)?;
+            out.extend_from_slice(b"[")?;
+            out.extend_from_slice(block)?;
+            out.extend_from_slice(b"]")
+        }
+        _ => out.extend_from_slice(b"another entry"),
+    }
+}
+
+/// What four calls of a reader find.
+fn found(alloc: Global, source: &mut MemSource) -> Result<Vec<u8>, AllocError> {
+    let mut out = Vec::new(alloc);
+    let mut reader = Reader::make(alloc)?;
+    for _ in 0..4 {
+        add_next(&mut out, &mut reader, source)?;
+    }
+    Ok(out)
 }
 
 #[test]
 fn a_reader_of_entries(rt: HostRuntime) -> Result<(), Fail> {
     let alloc = rt.alloc();
-    let mut source = MemSource::make(b"a\n!b\nx\nend\n".to_vec(alloc)?, 100, vec![in alloc; 2]?);
-    let mut reader = Reader::make(alloc)?;
-    assert_eq!(rt;
-        reader.next::<Tally, MemSource>(&mut source),
-        Ok(Next::Found)
-    );
-    assert_eq!(rt; reader.entry().shape(), Shape::Line(b"a"));
-    assert_eq!(rt;
-        reader.next::<Tally, MemSource>(&mut source),
-        Ok(Next::Found)
-    );
-    assert_eq!(rt; reader.entry().shape(), Shape::Whole(b"!b", b"x\n"));
-    assert_eq!(rt;
-        reader.next::<Tally, MemSource>(&mut source),
-        Err(EntryFault::Read)
-    );
-    assert_eq!(rt;
-        reader.next::<Tally, MemSource>(&mut source),
-        Err(EntryFault::Read)
-    );
+    let input = b"a\n!b\nx\nend\n".to_vec(alloc)?;
+    let mut source = MemSource::make(input, 100, vec![in alloc; 2]?);
+    let found = found(alloc, &mut source)?;
+    assert_eq!(rt; found.as_slice(), b"a|!b[x\n]ReadRead".as_slice());
     Ok(())
 }
 

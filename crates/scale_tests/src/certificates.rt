@@ -132,7 +132,18 @@ fn no_point(alloc: Global) -> Result<Problem, Fail> {
     Ok(Problem::checked(2, List::make(cost), List::make(rows)).ok_or("no problem")?)
 }
 
-// Twice the greatest denominator is out of range before any line is false. That of a refutation isn't looked at.
+// What is said of these multipliers, of a lower bound of 1.
+fn verdict(
+    alloc: Global,
+    problem: &Problem,
+    den: i128,
+    entries: &[(usize, i128)],
+) -> Result<Result<Verdict, TooWide>, NoMemory> {
+    let on = List::make(entries.to_vec(alloc)?);
+    Ok(check_dual(problem, &Frac::whole(1), &Cert { den, on }))
+}
+
+// Twice the greatest denominator is out of range before any line is false.
 #[test]
 fn certificates_beyond_a_text(rt: HostRuntime) -> Result<(), Fail> {
     let alloc = rt.alloc();
@@ -155,14 +166,17 @@ fn certificates_beyond_a_text(rt: HostRuntime) -> Result<(), Fail> {
             Ok(Verdict::Fails(Place::Entry(2))),
         ),
     ] {
-        let on = List::make(Vec::from_slice(alloc, entries)?);
-        assert_eq!(rt;
-            check_dual(&problem, &Frac::whole(1), &Cert { den, on }),
-            want,
-            "at {entries:?} over {den}"
-        );
+        let found = verdict(alloc, &problem, den, entries)?;
+        assert_eq!(rt; found, want, "at {entries:?} over {den}");
     }
-    let on = List::make(Vec::from_array(alloc, [(0, 1), (1, 2)])?);
+    Ok(())
+}
+
+// The denominator of a refutation isn't looked at.
+#[test]
+fn a_refutation_over_less_than_nothing(rt: HostRuntime) -> Result<(), Fail> {
+    let problem = no_point(rt.alloc())?;
+    let on = List::make([(0usize, 1i128), (1, 2)].to_vec(rt.alloc())?);
     assert_eq!(rt;
         check_farkas(&problem, &Cert { den: -7, on }),
         Ok(Verdict::Holds)

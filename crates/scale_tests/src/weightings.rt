@@ -63,37 +63,69 @@ fn judged(alloc: Global, first: u8, second: u8) -> Result<Matrix, Fail>
     Ok(matrix)
 }
 
-// The least gaps 50 and -100 of two criteria, the last swing judged greater than the first or the other way round.
+// The problem of a closed weighting, its scale and its least gap.
+fn described(alloc: Global, closed: &ClosedWeighting) -> Result<String, Fail> {
+    let mut text = problem_text(alloc, &closed.problem)?;
+    let least = closed.least;
+    write!(
+        text,
+        "over {}, least {}/{}\n",
+        closed.scale,
+        least.num(),
+        least.den()
+    )?;
+    Ok(text)
+}
+
+// The same of two criteria with the least gaps 50 and -100.
+fn closed_of_two(alloc: Global, first: u8, second: u8) -> Result<String, Fail> {
+    let matrix = judged(alloc, first, second)?;
+    let gaps = [Frac::whole(50), Frac::whole(-100)];
+    match closed_weighting(alloc, &matrix, &two_in_turn(), &gaps) {
+        Ok(closed) => described(alloc, &closed),
+        Err(_) => Err(Fail::from("refused")),
+    }
+}
+
+// The last swing is judged greater than the first, or the other way round.
 #[test]
 fn problem_of_two(rt: HostRuntime) -> Result<(), Fail> {
-    let order = two_in_turn();
     for (first, second, want) in [
-        (2, 3, "[150, 150]\n[1, -1] 0\n[2, 1] 1\n[-2, -1] -1\n"),
-        (3, 2, "[150, 150]\n[-1, 1] 0\n[2, 1] 1\n[-2, -1] -1\n"),
+        (
+            2,
+            3,
+            "[150, 150]\n[1, -1] 0\n[2, 1] 1\n[-2, -1] -1\nover 1, least -100/1\n",
+        ),
+        (
+            3,
+            2,
+            "[150, 150]\n[-1, 1] 0\n[2, 1] 1\n[-2, -1] -1\nover 1, least -100/1\n",
+        ),
     ] {
-        let matrix = judged(rt.alloc(), first, second)?;
-        let gaps = [Frac::whole(50), Frac::whole(-100)];
-        let closed = closed_weighting(rt.alloc(), &matrix, &order, &gaps)
-            .ok()
-            .ok_or("refused")?;
-        assert_eq!(rt; problem_text(rt.alloc(), &closed.problem)?.as_str(), want);
-        assert_eq!(rt; closed.scale, 1);
-        assert_eq!(rt; (closed.least.num(), closed.least.den()), (-100, 1));
+        let found = closed_of_two(rt.alloc(), first, second)?;
+        assert_eq!(rt; found.as_str(), want);
     }
     Ok(())
+}
+
+// Whether three criteria have these costs, or none where a number is too wide.
+fn have_costs(
+    alloc: Global,
+    gaps: [(i128, i128); 3],
+    want: Option<[i128; 3]>,
+) -> Result<bool, Fail> {
+    match unjudged(alloc, &last_first(), gaps)? {
+        Ok(closed) => Ok(want.is_some_and(|costs| closed.problem.cost() == costs.as_slice())),
+        Err(fault) => Ok(fault == WeightingFault::TooWide && want.is_none()),
+    }
 }
 
 // Unlike denominators; then one case that leaves the range at a difference, at the scale, at a numerator and at a sum,
 // each before one that just fits.
 #[test]
 fn costs_of_three(rt: HostRuntime) -> Result<(), Fail> {
-    let order = last_first();
-    let gaps = [(1, 2), (1, 3), (-1, 6)];
-    let closed = unjudged(rt.alloc(), &order, gaps)?.ok().ok_or("refused")?;
-    assert_eq!(rt; closed.problem.cost(), [7, 4, 0].as_slice());
-    assert_eq!(rt; closed.scale, 6);
-    assert_eq!(rt; (closed.least.num(), closed.least.den()), (-1, 6));
-    let cases: [([(i128, i128); 3], Option<[i128; 3]>); 8] = [
+    for (gaps, want) in [
+        ([(1, 2), (1, 3), (-1, 6)], Some([7, 4, 0])),
         ([(-1, 1), (0, 1), (MOST, 1)], None),
         ([(-1, 1), (-1, 1), (MOST - 1, 1)], Some([MOST, MOST, MOST])),
         ([(1, WORD + 1), (1, WORD - 1), (0, 1)], None),
@@ -105,14 +137,22 @@ fn costs_of_three(rt: HostRuntime) -> Result<(), Fail> {
         ([(MOST / 2, 1), (1, 2), (0, 1)], Some([MOST, MOST - 1, 0])),
         ([(MOST, 1), (1, 1), (0, 1)], None),
         ([(MOST - 1, 1), (1, 1), (0, 1)], Some([MOST, MOST - 1, 0])),
-    ];
-    for (gaps, want) in cases {
-        match unjudged(rt.alloc(), &order, gaps)? {
-            Ok(closed) => assert!(rt;
-                Some(closed.problem.cost()) == want.as_ref().map(|c| c.as_slice())
-            ),
-            Err(fault) => assert!(rt; fault == WeightingFault::TooWide && want.is_none()),
-        }
+    ] {
+        let have_costs = have_costs(rt.alloc(), gaps, want)?;
+        assert!(rt; have_costs, "at {gaps:?}");
     }
+    Ok(())
+}
+
+// The scale and the least gap over unlike denominators.
+#[test]
+fn scale_of_three(rt: HostRuntime) -> Result<(), Fail> {
+    let closed = unjudged(rt.alloc(), &last_first(), [(1, 2), (1, 3), (-1, 6)])?;
+    let (scale, least) = match &closed {
+        Ok(closed) => (closed.scale, closed.least),
+        Err(_) => (0, Frac::whole(0)),
+    };
+    drop(closed);
+    assert_eq!(rt; (scale, least.num(), least.den()), (6, -1, 6));
     Ok(())
 }

@@ -3,8 +3,6 @@
 #![tactic(auto)]
 
 #[cfg(test)]
-mod fraction_texts;
-#[cfg(test)]
 mod fractions;
 #[cfg(test)]
 mod matrices;

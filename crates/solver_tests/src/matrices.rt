@@ -1,6 +1,7 @@
 ghost use Rattle.std.specs.Prelude.{◌≡◌, ◌≤◌, ◌-◌, IfOk, OnOk};
 ghost use Rattle.judgement_matrix.specs.Matrix.{IsPair};
 
+use crate::fractions::fraction;
 use frac128::{Frac, TooWide};
 use judgement_matrix::{Fit, Matrix, Range, Tag};
 use std::alloc::Global;
@@ -43,60 +44,68 @@ fn ranges(rt: HostRuntime) {
     }
 }
 
+// Whether these ranges make the matrix.
+fn is_of(alloc: Global, matrix: &Matrix, ranges: [Option<(u8, u8)>; 3]) -> Result<bool, Fail> {
+    Ok(matrix_of(alloc, ranges)? == *matrix)
+}
+
 #[test]
 fn judgements(rt: HostRuntime) -> Result<(), Fail> {
     let mut matrix = matrix_of(rt.alloc(), [Some((3, 4)), None, Some((1, 2))])?;
-    assert_eq!(rt; matrix.size(), 3);
     assert_eq!(rt; matrix.get(1, 2), (Range { lo: 3, hi: 4 }, true));
     assert_eq!(rt; matrix.get(1, 3), (Range::full(), false));
     assert_eq!(rt; matrix.get(2, 3), (Range { lo: 1, hi: 2 }, true));
     matrix.clear(2, 3);
-    assert_eq!(rt; matrix, matrix_of(rt.alloc(), [Some((3, 4)), None, None])?);
-    assert_eq!(rt; matrix.copy()?, matrix);
+    assert!(rt; is_of(rt.alloc(), &matrix, [Some((3, 4)), None, None])?);
     Ok(())
 }
 
 #[test]
+fn copies(rt: HostRuntime) -> Result<(), Fail> {
+    let ranges = [Some((3, 4)), None, Some((1, 2))];
+    let copy = matrix_of(rt.alloc(), ranges)?.copy()?;
+    assert!(rt; is_of(rt.alloc(), &copy, ranges)?);
+    Ok(())
+}
+
+// Whether it is found of a matrix of these ranges that the values of the two upper elements meet it or fail it so.
+fn is_found(
+    alloc: Global,
+    ranges: [Option<(u8, u8)>; 3],
+    first: &str,
+    second: &str,
+    want: Result<Fit, TooWide>,
+) -> Result<bool, Fail> {
+    let values = [fraction(first)?, fraction(second)?, Frac::whole(0)];
+    Ok(matrix_of(alloc, ranges)?.meets(&values) == want)
+}
+
+#[test]
 fn fits(rt: HostRuntime) -> Result<(), Fail> {
-    let wide = i128::MAX;
+    let most = "170141183460469231731687303715884105727";
+    let least = "-170141183460469231731687303715884105727";
     let single = [Some((3, 3)), Some((4, 4)), Some((2, 2))];
     let equal = [Some((0, 0)), Some((2, 2)), Some((2, 2))];
     let several = [Some((3, 4)), None, Some((1, 2))];
     let last = [None, None, Some((2, 2))];
     let same = [Some((0, 0)), None, None];
     let nothing = [None, None, None];
+    let cross = Tag::Cross(1, 2, 2, 3);
     for (ranges, first, second, want) in [
-        (single, (11, 2), (2, 1), Ok(Fit::Meets)),
-        (single, (9, 2), (2, 1), Ok(Fit::Fails(Tag::Lower(1, 2)))),
-        (equal, (9, 4), (9, 4), Ok(Fit::Meets)),
-        (equal, (10, 4), (9, 4), Ok(Fit::Fails(Tag::Zero(1, 2)))),
-        (several, (16, 3), (13, 6), Ok(Fit::Meets)),
-        (
-            several,
-            (31, 5),
-            (3, 1),
-            Ok(Fit::Fails(Tag::Cross(1, 2, 2, 3))),
-        ),
-        (nothing, (0, 1), (0, 1), Ok(Fit::Meets)),
-        (nothing, (1, 7), (1, 6), Ok(Fit::Fails(Tag::Order(1)))),
-        (single, (wide, 1), (-wide, 1), Err(TooWide)),
-        (same, (wide, 1), (-wide, 1), Err(TooWide)),
-        (
-            last,
-            (wide, 1),
-            (-wide, 1),
-            Ok(Fit::Fails(Tag::Lower(2, 3))),
-        ),
+        (single, "11/2", "2", Ok(Fit::Meets)),
+        (single, "9/2", "2", Ok(Fit::Fails(Tag::Lower(1, 2)))),
+        (equal, "9/4", "9/4", Ok(Fit::Meets)),
+        (equal, "10/4", "9/4", Ok(Fit::Fails(Tag::Zero(1, 2)))),
+        (several, "16/3", "13/6", Ok(Fit::Meets)),
+        (several, "31/5", "3", Ok(Fit::Fails(cross))),
+        (nothing, "0", "0", Ok(Fit::Meets)),
+        (nothing, "1/7", "1/6", Ok(Fit::Fails(Tag::Order(1)))),
+        (single, most, least, Err(TooWide)),
+        (same, most, least, Err(TooWide)),
+        (last, most, least, Ok(Fit::Fails(Tag::Lower(2, 3)))),
     ] {
-        let matrix = matrix_of(rt.alloc(), ranges)?;
-        let values = [
-            Frac::make(first.0, first.1)?,
-            Frac::make(second.0, second.1)?,
-            Frac::make(0, 1)?,
-        ];
-        let values = &values[..];
-        assert!(rt; values[2].num() == 0);
-        assert_eq!(rt; matrix.meets(values), want, "at {values:?}");
+        let is_found = is_found(rt.alloc(), ranges, first, second, want)?;
+        assert!(rt; is_found, "at {first} and {second}");
     }
     Ok(())
 }
@@ -141,6 +150,16 @@ fn category(p: usize, q: usize) -> u8
     ((5 * p + 3 * q) % 7) as u8
 }
 
+// Whether a matrix of this size without an element is that of the others.
+fn is_removed(alloc: Global, size: usize, element: usize) -> Result<bool, Fail>
+    requires size { (2 ≤ size) × (size ≤ 24) }
+    requires element { (1 ≤ element) × (element ≤ size) }
+{
+    let mut matrix = numbered(alloc, size, NONE, NONE)?;
+    matrix.remove(element);
+    Ok(numbered(alloc, size - 1, element, NONE)? == matrix)
+}
+
 #[test]
 fn removals(rt: HostRuntime) -> Result<(), Fail> {
     for (size, element) in [
@@ -153,21 +172,26 @@ fn removals(rt: HostRuntime) -> Result<(), Fail> {
         (24, 12),
         (24, 24),
     ] {
-        let mut matrix = numbered(rt.alloc(), size, NONE, NONE)?;
-        matrix.remove(element);
-        let want = numbered(rt.alloc(), size - 1, element, NONE)?;
-        assert_eq!(rt; matrix, want, "{size} without {element}");
+        let is_removed = is_removed(rt.alloc(), size, element)?;
+        assert!(rt; is_removed, "{size} without {element}");
     }
     Ok(())
+}
+
+// Whether a matrix of this size that grows gets an element above the last of which nothing is judged.
+fn is_grown(alloc: Global, size: usize) -> Result<bool, Fail>
+    requires { (1 ≤ size) × (size ≤ 23) }
+{
+    let mut matrix = numbered(alloc, size, NONE, NONE)?;
+    matrix.grow()?;
+    Ok(numbered(alloc, size + 1, NONE, size)? == matrix)
 }
 
 #[test]
 fn growth(rt: HostRuntime) -> Result<(), Fail> {
     for size in [1, 2, 5, 23] {
-        let mut matrix = numbered(rt.alloc(), size, NONE, NONE)?;
-        matrix.grow()?;
-        let want = numbered(rt.alloc(), size + 1, NONE, size)?;
-        assert_eq!(rt; matrix, want, "one more than {size}");
+        let is_grown = is_grown(rt.alloc(), size)?;
+        assert!(rt; is_grown, "one more than {size}");
     }
     Ok(())
 }

@@ -3,87 +3,61 @@ use frac128::{List, NoMemory};
 use std::alloc::Global;
 use std::test::Fail;
 
-#[test]
-fn parts(rt: HostRuntime) -> Result<(), Fail> {
-    let alloc = rt.alloc();
-    let row = Row {
-        coefs: List::make(vec![in alloc; 1, -1]?),
-        bound: 3,
-    };
-    let cost = List::make(vec![in alloc; 2, 5]?);
-    let problem = Problem::make(2, cost, List::make(vec![in alloc; row]?));
-    assert_eq!(rt; problem.vars(), 2);
-    assert_eq!(rt; problem.cost(), [2, 5].as_slice());
-    assert_eq!(rt; problem.rows().len(), 1);
-    for row in problem.rows() {
-        assert_eq!(rt; row.coefs.as_slice(), [1, -1].as_slice());
-        assert_eq!(rt; row.bound, 3);
-    }
-    Ok(())
-}
-
-// Whether data with one row make a problem.
-fn is_accepted(
+// The problem of these costs and of one row, where they make one.
+fn problem_of(
     alloc: Global,
-    vars: usize,
-    cost: Vec<i128>,
-    coefs: Vec<i128>,
+    costs: &[i128],
+    coefs: &[i128],
     bound: i128,
-) -> Result<bool, NoMemory> {
-    let row = Row {
-        coefs: List::make(coefs),
-        bound,
-    };
-    let rows = List::make(vec![in alloc; row]?);
-    Ok(Problem::checked(vars, List::make(cost), rows).is_some())
+) -> Result<Option<Problem>, NoMemory> {
+    let coefs = List::make(coefs.to_vec(alloc)?);
+    let rows = List::make(vec![in alloc; Row { coefs, bound }]?);
+    let costs = List::make(costs.to_vec(alloc)?);
+    Ok(Problem::checked(2, costs, rows))
 }
 
 #[test]
 fn accepted(rt: HostRuntime) -> Result<(), Fail> {
-    let alloc = rt.alloc();
-    let cost = vec![in alloc; 2, 0]?;
-    let coefs = vec![in alloc; 1, -1]?;
-    assert!(rt; is_accepted(alloc, 2, cost, coefs, 3)?);
+    for (costs, coefs, bound, want) in [
+        ([2, 0], [1, -1].as_slice(), 3, true),
+        ([2, -5], [1, -1].as_slice(), 3, false),
+        ([2, 5], [1].as_slice(), 3, false),
+        ([2, 5], [1, -1].as_slice(), i128::MIN, false),
+    ] {
+        let found = problem_of(rt.alloc(), &costs, coefs, bound)?;
+        assert_eq!(rt; found.is_some(), want, "with a bound of {bound}");
+    }
     Ok(())
 }
 
-#[test]
-fn cost_below_zero(rt: HostRuntime) -> Result<(), Fail> {
-    let alloc = rt.alloc();
-    let cost = vec![in alloc; 2, -5]?;
-    let coefs = vec![in alloc; 1, -1]?;
-    assert!(rt; !is_accepted(alloc, 2, cost, coefs, 3)?);
-    Ok(())
+// Whether these are its parts.
+fn has_parts(problem: &Problem, costs: &[i128], coefs: &[i128], bound: i128) -> bool {
+    problem.vars() == costs.len()
+        && problem.cost() == costs
+        && problem.rows().len() == 1
+        && problem.rows()[0].coefs.as_slice() == coefs
+        && problem.rows()[0].bound == bound
 }
 
 #[test]
-fn row_too_short(rt: HostRuntime) -> Result<(), Fail> {
-    let alloc = rt.alloc();
-    let cost = vec![in alloc; 2, 5]?;
-    let coefs = vec![in alloc; 1]?;
-    assert!(rt; !is_accepted(alloc, 2, cost, coefs, 3)?);
+fn parts(rt: HostRuntime) -> Result<(), Fail> {
+    let problem = problem_of(rt.alloc(), &[2, 5], &[1, -1], 3)?.ok_or("no problem")?;
+    assert!(rt; has_parts(&problem, &[2, 5], &[1, -1], 3));
     Ok(())
 }
 
-#[test]
-fn bound_out_of_range(rt: HostRuntime) -> Result<(), Fail> {
-    let alloc = rt.alloc();
-    let cost = vec![in alloc; 2, 5]?;
-    let coefs = vec![in alloc; 1, -1]?;
-    assert!(rt; !is_accepted(alloc, 2, cost, coefs, i128::MIN)?);
-    Ok(())
+// Multipliers over 2.
+fn cert_of(alloc: Global, on: &[(usize, i128)]) -> Result<Cert, NoMemory> {
+    Ok(Cert {
+        den: 2,
+        on: List::make(on.to_vec(alloc)?),
+    })
 }
 
 #[test]
 fn copies(rt: HostRuntime) -> Result<(), Fail> {
-    let alloc = rt.alloc();
-    let on = List::make(vec![in alloc; (0usize, 7i128), (3, 1)]?);
-    let cert = Cert { den: 2, on };
-    assert_eq!(rt; cert.copy(alloc)?, cert);
-    let other = Cert {
-        den: 2,
-        on: List::make(vec![in alloc; (0usize, 7i128)]?),
-    };
-    assert!(rt; other != cert);
+    let cert = cert_of(rt.alloc(), &[(0, 7), (3, 1)])?;
+    assert_eq!(rt; cert.copy(rt.alloc())?, cert);
+    assert!(rt; cert_of(rt.alloc(), &[(0, 7)])? != cert);
     Ok(())
 }

@@ -35,34 +35,57 @@ fn add_cert(alloc: Global, text: &mut String, cert: &Cert) -> Result<(), AllocEr
     Ok(())
 }
 
-/// The answer: the point, the value and the certificate, or a fault.
-fn answer_text(alloc: Global, answer: &Result<Outcome, SolveFault>) -> Result<String, AllocError> {
-    let mut text = String::new(alloc);
+/// The point, its cost and the certificate.
+fn add_least(
+    alloc: Global,
+    text: &mut String,
+    point: &[Frac],
+    value: &Frac,
+    cert: &Cert,
+) -> Result<(), AllocError> {
+    for number in point {
+        add_fraction(alloc, text, number)?;
+    }
+    text.push_str("costs ")?;
+    add_fraction(alloc, text, value)?;
+    add_cert(alloc, text, cert)
+}
+
+/// That there is no point, and the certificate.
+fn add_nothing(alloc: Global, text: &mut String, cert: &Cert) -> Result<(), AllocError> {
+    text.push_str("nothing ")?;
+    add_cert(alloc, text, cert)
+}
+
+/// The answer, or the fault.
+fn add_answer(
+    alloc: Global,
+    text: &mut String,
+    answer: &Result<Outcome, SolveFault>,
+) -> Result<(), AllocError> {
     match answer {
         Ok(Outcome::Least { point, value, cert }) => {
-            for number in point.as_slice() {
-                add_fraction(alloc, &mut text, number)?;
-            }
-            text.push_str("costs ")?;
-            add_fraction(alloc, &mut text, value)?;
-            add_cert(alloc, &mut text, cert)?;
+            add_least(alloc, text, point.as_slice(), value, cert)
         }
-        Ok(Outcome::Nothing { cert }) => {
-            text.push_str("nothing ")?;
-            add_cert(alloc, &mut text, cert)?;
-        }
-        Err(SolveFault::TooWide) => text.push_str("too wide")?,
-        Err(SolveFault::NoMemory) => text.push_str("no memory")?,
+        Ok(Outcome::Nothing { cert }) => add_nothing(alloc, text, cert),
+        Err(SolveFault::TooWide) => text.push_str("too wide"),
+        Err(SolveFault::NoMemory) => text.push_str("no memory"),
     }
+}
+
+/// The pivots that were counted, from a count of 0, and the answer.
+fn answered(alloc: Global, problem: &Problem) -> Result<String, AllocError> {
+    let mut pivots = Count::new();
+    let answer = solve(alloc, problem, &mut pivots);
+    let mut text = format!(in alloc; "{} pivots: ", pivots.made())?;
+    add_answer(alloc, &mut text, &answer)?;
     Ok(text)
 }
 
-/// The answer and the pivots that were counted, from a count of 0.
-fn solved(alloc: Global, vars: usize, numbers: &[i128]) -> Result<(String, u64), Fail> {
+/// The same of the problem of these numbers.
+fn solved(alloc: Global, vars: usize, numbers: &[i128]) -> Result<String, Fail> {
     let problem = problem_of(alloc, vars, numbers)?;
-    let mut pivots = Count::new();
-    let answer = solve(alloc, &problem, &mut pivots);
-    Ok((answer_text(alloc, &answer)?, pivots.made()))
+    Ok(answered(alloc, &problem)?)
 }
 
 /// Two rows whose first pivot forms (2^90 + 1) * 2^90.
@@ -80,31 +103,42 @@ const CIRCLE: [i128; 34] = [
 
 #[test]
 fn answers(rt: HostRuntime) -> Result<(), Fail> {
-    let alloc = rt.alloc();
-    for (vars, numbers, want, count) in [
-        (1, [1, 2, 3].as_slice(), "3/2 costs 3/2 over 2 0:1", 1),
-        (1, [1, 1, 1, -1, 0].as_slice(), "nothing over 1 0:1 1:1", 1),
-        (1, [1].as_slice(), "0 costs 0 over 1", 0),
-        (2, WIDE.as_slice(), "too wide", 0),
-        (2, MATRIX.as_slice(), "2 3 costs 5 over 1 0:1 2:1", 4),
-        (4, CIRCLE.as_slice(), "0 1/2 0 1 costs 0 over 1", 3),
-        (0, [1].as_slice(), "nothing over 1 0:1", 0),
+    for (vars, numbers, want) in [
+        (
+            1,
+            [1, 2, 3].as_slice(),
+            "1 pivots: 3/2 costs 3/2 over 2 0:1",
+        ),
+        (
+            1,
+            [1, 1, 1, -1, 0].as_slice(),
+            "1 pivots: nothing over 1 0:1 1:1",
+        ),
+        (1, [1].as_slice(), "0 pivots: 0 costs 0 over 1"),
+        (2, WIDE.as_slice(), "0 pivots: too wide"),
+        (2, MATRIX.as_slice(), "4 pivots: 2 3 costs 5 over 1 0:1 2:1"),
+        (4, CIRCLE.as_slice(), "3 pivots: 0 1/2 0 1 costs 0 over 1"),
+        (0, [1].as_slice(), "0 pivots: nothing over 1 0:1"),
     ] {
-        let (text, made) = solved(alloc, vars, numbers)?;
+        let text = solved(rt.alloc(), vars, numbers)?;
         assert_eq!(rt; text.as_str(), want);
-        assert_eq!(rt; made, count);
     }
     Ok(())
 }
 
+/// How two calls in turn end, and the pivots that they count.
+fn pivoted_twice(alloc: Global, problem: &Problem) -> Result<(End, End, u64), Fail> {
+    let mut table = Table::make(alloc, problem)?;
+    let mut pivots = Count::new();
+    let first = table.pivot_all(&mut pivots).ok().ok_or("too wide")?;
+    let second = table.pivot_all(&mut pivots).ok().ok_or("too wide")?;
+    Ok((first, second, pivots.made()))
+}
+
 #[test]
 fn a_second_call(rt: HostRuntime) -> Result<(), Fail> {
-    let alloc = rt.alloc();
-    let problem = problem_of(alloc, 1, &[1, 2, 3])?;
-    let mut table = Table::make(alloc, &problem)?;
-    let mut pivots = Count::new();
-    assert_eq!(rt; table.pivot_all(&mut pivots), Ok(End::Optimal));
-    assert_eq!(rt; table.pivot_all(&mut pivots), Ok(End::Optimal));
-    assert_eq!(rt; pivots.made(), 1);
+    let problem = problem_of(rt.alloc(), 1, &[1, 2, 3])?;
+    let found = pivoted_twice(rt.alloc(), &problem)?;
+    assert_eq!(rt; found, (End::Optimal, End::Optimal, 1));
     Ok(())
 }

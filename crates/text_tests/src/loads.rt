@@ -19,7 +19,9 @@ fn replace(alloc: Global, model: &mut Model, text: &[u8]) -> Result<(), LoadFaul
 #[test]
 fn a_model_is_replaced(rt: HostRuntime) -> Result<(), Fail> {
     let mut model = Model::empty(rt.alloc())?;
-    assert!(rt; replace(rt.alloc(), &mut model, b"{\"macbeth\":1,\"criteria\":[]}").is_ok());
-    assert!(rt; replace(rt.alloc(), &mut model, b"{}").is_err());
+    let is_loaded = replace(rt.alloc(), &mut model, b"{\"macbeth\":1,\"criteria\":[]}").is_ok();
+    let is_refused = replace(rt.alloc(), &mut model, b"{}").is_err();
+    drop(model);
+    assert_eq!(rt; (is_loaded, is_refused), (true, true));
     Ok(())
 }

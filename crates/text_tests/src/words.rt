@@ -1,5 +1,6 @@
 //! Tables of words, and bytes that are no names or no texts.
-use model_core::{Name, Text, valid_name};
+use model_core::{Name, NoMemory, Text, valid_name};
+use std::alloc::Global;
 use std::test::Fail;
 use word_table::Words;
 
@@ -18,6 +19,13 @@ fn equal_words_are_no_table(rt: HostRuntime) -> Result<(), Fail> {
     Ok(())
 }
 
+// Whether these bytes are valid for a name, make one, and make a text.
+fn kinds(alloc: Global, bytes: &[u8]) -> Result<(bool, bool, bool), NoMemory> {
+    let is_name = Name::check(alloc, bytes)?.is_some();
+    let is_text = Text::check(alloc, bytes)?.is_some();
+    Ok((valid_name(bytes), is_name, is_text))
+}
+
 #[test]
 fn bytes_that_are_no_names(rt: HostRuntime) -> Result<(), Fail> {
     for (bytes, is_name, is_text) in [
@@ -32,17 +40,8 @@ fn bytes_that_are_no_names(rt: HostRuntime) -> Result<(), Fail> {
         (b"\xed\xa0\x80", false, false),
         (b"\xff", false, false),
     ] {
-        assert_eq!(rt; valid_name(bytes), is_name, "{bytes:?}");
-        assert_eq!(rt;
-            Name::check(rt.alloc(), bytes)?.is_some(),
-            is_name,
-            "{bytes:?}"
-        );
-        assert_eq!(rt;
-            Text::check(rt.alloc(), bytes)?.is_some(),
-            is_text,
-            "{bytes:?}"
-        );
+        let found = kinds(rt.alloc(), bytes)?;
+        assert_eq!(rt; found, (is_name, is_name, is_text), "{bytes:?}");
     }
     Ok(())
 }
