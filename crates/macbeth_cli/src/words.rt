@@ -1,5 +1,5 @@
 //! The program's words: its arguments, behind its own name.
-ghost use Rattle.std.specs.Prelude.{◌≡◌, ◌⊎◌, IfErr};
+ghost use Rattle.std.specs.Prelude.{◌≡◌, ◌⊎◌, IfErr, IfOk, IsUtf8, string_bytes};
 
 use std::alloc::Global;
 use std::env::{Env, FillError};
@@ -33,9 +33,11 @@ pub fn words_of<E: Env>(env: &E, alloc: Global) -> Result<Vec<String>, Status>
     Ok(words)
 }
 
-/// The word that these bytes are.
+/// The word that these bytes are, `BadWords` where they are no UTF-8.
 fn word_of(alloc: Global, bytes: &[u8]) -> Result<String, Status>
-    ensures { IfErr result (λ status. (status ≡ Status.BadWords) ⊎ (status ≡ Status.NoMemory)) }
+    ensures word { IfOk result (λ word. string_bytes word ≡ bytes.now) }
+    ensures status { IfErr result (λ status.
+        ((status ≡ Status.BadWords) × ¬ (IsUtf8 bytes.now)) ⊎ (status ≡ Status.NoMemory)) }
 {
     let Ok(word) = str::from_utf8(bytes) else {
         return Err(Status::BadWords);
