@@ -12,3 +12,4 @@ pub mod ChangeLemmas
 pub mod ValueLemmas
 pub mod ScaleLemmas
 pub mod ShiftLemmas
+pub mod KeptMatrices

@@ -56,8 +56,9 @@ module _ (cs : List CriterionState) (k : CriterionState) where
         (named.0, subst (λ x. e ≤ length x.elements) (sym (front cs (k ∷ []) c no_criterion low)) named.1);
   }
 
-pub IsModel-wider : (m : ModelState) (k : CriterionState) → IsModel m → length m.criteria < CRITERIA → k.group ≡ None → IsModel (with_criterion m k)
-IsModel-wider m k is room root = record {
+pub IsModel-grouped_wider : (m : ModelState) (k : CriterionState) → IsModel m → length m.criteria < CRITERIA
+    → ((g : ℕ) → k.group ≡ Some g → g < length m.groups) → IsModel (with_criterion m k)
+IsModel-grouped_wider m k is room grouped = record {
   few_options = is.few_options;
   few_criteria = omega (arith, length-append m.criteria (k ∷ []), room);
   few_groups = is.few_groups;
@@ -70,9 +71,13 @@ IsModel-wider m k is room root = record {
   placed = λ c g has.
       elim (one_more m.criteria k c no_criterion) [
         | inl e ↦ is.placed c g (sym (ap (λ x. x.group) e) ∙ has)
-        | inr e ↦ absurd (none_some (sym root ∙ sym (ap (λ x. x.group) e) ∙ has))
+        | inr e ↦ grouped g (sym (ap (λ x. x.group) e) ∙ has)
       ];
 }
+
+-- one that stands at the root
+pub IsModel-wider : (m : ModelState) (k : CriterionState) → IsModel m → length m.criteria < CRITERIA → k.group ≡ None → IsModel (with_criterion m k)
+IsModel-wider m k is room root = IsModel-grouped_wider m k is room (λ g has. absurd (none_some (sym root ∙ has)))
 
 -- the places after one that went move up
 module _ (cs : List CriterionState) (at : ℕ) (there : at < length cs) where

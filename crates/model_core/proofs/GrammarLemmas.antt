@@ -10,7 +10,7 @@ use Rattle.std.specs.List.{prefix_len}
 use Rattle.std.proofs.lemmas.Option.{slice_get_within}
 use Rattle.word_table.specs.Words.{find_word}
 use Rattle.word_table.proofs.WordLemmas.{found}
-use Rattle.judgement_matrix.specs.Range.{Bounds, bounds}
+use Rattle.judgement_matrix.specs.Range.{Bounds, IsRange, bounds}
 use Rattle.model_core.specs.Categories.{category_words, category_word, digit_of, category_of, range_between, joined_range, range_of, WritesCategory, WritesRange}
 use Rattle.model_core.proofs.CategoryLemmas.{below_seven}
 
@@ -204,3 +204,12 @@ read bytes range writes = elim writes [
     | inr two ↦ ap range_of two.2 ∙ joined_reads two.0 two.1 range two.3 two.4 two.5
   ]
 ]
+
+-- what is written is a range
+pub range_of-IsRange : (bytes : List ℕ) (range : Bounds) → range_of bytes ≡ Some range → IsRange range
+range_of-IsRange bytes range h = by_form (written bytes range h)
+  where
+    by_form : WritesRange bytes range → IsRange range
+    by_form (inl (positive, is)) = subst IsRange (sym is) (omega arith, omega arith)
+    by_form (inr (inl (writes, same))) = (omega (arith, same), omega (arith, writes.0, same))
+    by_form (inr (inr (lo, hi, joined, first, second, ordered))) = (ordered, second.0)

@@ -9,3 +9,5 @@ pub mod KeepLemmas
 pub mod CriterionLemmas
 pub mod GroupGone
 pub mod EditLemmas
+pub mod ModelChanges
+pub mod WholeEdits

@@ -4,3 +4,4 @@ pub mod Lists
 pub mod State
 pub mod Finding
 pub mod Edits
+pub mod Whole

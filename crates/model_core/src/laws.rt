@@ -1,9 +1,10 @@
 //! What the definitions amount to: functions that do nothing, whose contracts are the laws.
-ghost use Rattle.std.specs.Prelude.{◌≡◌, ◌≢◌, ◌↔◌, ℕ, List, Some, Result};
+ghost use Rattle.std.specs.Prelude.{◌≡◌, ◌≢◌, ◌↔◌, ℕ, List, Some, Ok, Result};
 ghost use Rattle.judgement_matrix.specs.Range.{Bounds};
 ghost use Rattle.model_core.specs.Categories.{range_of, WritesRange};
-ghost use Rattle.model_core.specs.State.{ModelState, IsModel, IsCriterion};
-ghost use Rattle.model_core.specs.Edits.{Edit, Edits};
+ghost use Rattle.model_core.specs.State.{ModelState, IsModel, IsCriterion, empty_model};
+ghost use Rattle.model_core.specs.Whole.{IsWholeModel, IsLawful};
+ghost use Rattle.model_core.specs.Edits.{Edit, Edits, edited};
 ghost use Rattle.model_core.specs.declared.edit.EditFault.{EditFault as Fault};
 
 use crate::criterion::Criterion;
@@ -23,6 +24,14 @@ pub fn one_outcome()
 /// joined by `..`, the first not above the second. It does nothing.
 pub fn ranges_as_written()
     ensures { (bytes : List ℕ) (range : Bounds) → (range_of bytes ≡ Some range) ↔ WritesRange bytes range }
+{}
+
+/// States that an edit whose parts are lawful leaves a whole model whole, where it isn't refused: its criteria and its weighting
+/// have matrices of their sizes. So is the empty model. It does nothing.
+pub fn edits_keep_a_model_whole()
+    ensures empty { IsWholeModel empty_model }
+    ensures edited { (m after : ModelState) (edit : Edit) → IsWholeModel m → IsLawful m edit
+        → edited m edit ≡ Ok after → IsWholeModel after }
 {}
 
 /// States what the type of a model keeps. It only reads it.
