@@ -24,3 +24,4 @@ pub mod DumpLines
 pub mod DumpSize
 pub mod WeightingLemmas
 pub mod LoadLemmas
+pub mod WholeLoads

@@ -2,6 +2,7 @@
 ghost use Rattle.std.specs.Prelude.{◌≡◌, ◌==◌, not, ℕ, List, true, Ok, Err};
 ghost use Rattle.std.specs.List.{list_all};
 ghost use Rattle.model_core.specs.State.{ModelState};
+ghost use Rattle.model_core.specs.Whole.{IsWholeModel};
 ghost use Rattle.model_json.specs.Kept.{IsNamedModel};
 ghost use Rattle.model_json.specs.Reading.{model_of};
 ghost use Rattle.model_json.specs.Writing.{model_data};
@@ -20,4 +21,10 @@ pub fn written_is_read()
 pub fn pointers_have_no_newline()
     ensures { (bytes pointer : List ℕ) → load_of bytes ≡ Err (LoadFault.BadModel pointer)
         → list_all (λ byte. not (byte == 10)) pointer ≡ true }
+{}
+
+/// States that a text that loads gives a whole model: its criteria and its weighting have matrices of their sizes. It does
+/// nothing.
+pub fn loaded_models_are_whole()
+    ensures { (bytes : List ℕ) (m : ModelState) → load_of bytes ≡ Ok m → IsWholeModel m }
 {}
