@@ -9,3 +9,4 @@ pub mod RecordExistence
 pub mod LineOfRow
 pub mod FaultlessLemmas
 pub mod ImportLemmas
+pub mod MatrixLemmas

@@ -51,3 +51,10 @@ pub fn tables_are_tables()
     ensures values { (head : List ℕ) (names : List (List ℕ)) (values : List Fraction)
         → strip_bom head ≡ head → IsTable (value_table head names values) }
 {}
+
+/// States that records of at least one and at most as many rows as a matrix may have elements hold a matrix. It does nothing.
+#[tactic(auto, using(crate::proofs::MatrixLemmas::IsMatrix_of_table))]
+pub fn imported_matrices_are_matrices()
+    ensures { (names : List (List ℕ)) (records : List (List (List ℕ)))
+        → IsSize (length names) → IsMatrix (table_matrix names records) }
+{}
