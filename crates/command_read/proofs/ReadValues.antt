@@ -1,5 +1,8 @@
 -- What a command keeps that was read from a line.
-use Rattle.std.proofs.Common.{◌≡◌, ℕ, Bool, true, false, List, [], ◌∷◌, Option, Some, None, Result, Ok, Err, refl, cond, length}
+use Rattle.std.proofs.Common.{◌≡◌, ℕ, ◌≤◌, ◌&&◌, Bool, true, false, not, nat_le, List, [], ◌∷◌, Option, Some, None, Result, Ok, Err, refl, subst, cond, length, arith}
+use Rattle.std.specs.List.{list_all}
+use Rattle.std.specs.Str.Parse.{digits_value}
+use Rattle.std.proofs.lemmas.Bool.Decides.{nat_tests}
 use Rattle.std.specs.Prelude.{⊤, codes}
 use Rattle.std.specs.Option.{option_map_or}
 use Rattle.std.specs.Str.{bytes_eq, is_utf8}
@@ -10,7 +13,13 @@ use Rattle.frac128.proofs.ReaderLemmas.{read_positive}
 use Rattle.command_read.specs.Refusals.{◌>>=◌}
 use Rattle.command_read.specs.Words.{first_word, words}
 use Rattle.command_read.specs.Verbs.{verb_of}
-use Rattle.command_read.specs.Parts.{name, new_name, names, range, reach, fraction, fractions, values, ends_in_zero}
+use Rattle.command_read.specs.Parts.{name, new_name, names, range, reach, is_numeral, is_reach, fraction, fractions, values, ends_in_zero}
+use Rattle.judgement_matrix.specs.Range.{Bounds, IsRange}
+use Rattle.model_core.specs.Names.{is_name}
+use Rattle.model_core.specs.Categories.{range_of}
+use Rattle.model_core.specs.State.{is_reserved}
+use Rattle.model_core.specs.declared.limits.TheConstants.{LEAST_REACH, MOST_REACH}
+use Rattle.model_core.proofs.GrammarLemmas.{range_of-IsRange}
 use Rattle.command_read.specs.Forms.{fits as forms_fits, criterion as forms_criterion, judge as forms_judge, weigh_order as forms_weigh_order, weigh as forms_weigh, reach_of as forms_reach_of, group as forms_group, export as forms_export}
 use Rattle.command_read.specs.Forms.{form, no_word, one_word, two_words, three_words, four_words, one_name, two_names, three_names}
 use Rattle.command_read.specs.Reading.{command_of, command_at, command_in, is_comment, parsed_as}
@@ -20,7 +29,7 @@ use Rattle.command_read.specs.declared.command.Command.TheVariants as command
 use Rattle.command_read.specs.declared.command.Parsed.{Parsed}
 use Rattle.command_read.specs.declared.command.Parsed.TheVariants.{Nothing, Do, Refused}
 use Rattle.command_read.specs.declared.refusal.Refusal.{Refusal}
-use Rattle.command_read.specs.declared.refusal.Refusal.TheVariants.{BadNumber, UnknownCommand, NotUtf8}
+use Rattle.command_read.specs.declared.refusal.Refusal.TheVariants.{BadName, BadNumber, BadCategory, UnknownCommand, NotUtf8}
 use Rattle.command_read.specs.declared.verb.Verb.{Verb}
 use Rattle.command_read.specs.declared.verb.Verb.TheVariants as verb
 
@@ -30,6 +39,10 @@ AreReadValues vs = AreFractions vs × (ends_in_zero vs ≡ true)
 
 abbrev pub Keeps : Command → Type 0
 Keeps (command.Fits name vs) = AreReadValues vs
+Keeps (command.Criterion name elements) = (2 ≤ length elements) × (is_reserved name ≡ false)
+Keeps (command.Judge name x y range) = IsRange range
+Keeps (command.Weigh x y range) = IsRange range
+Keeps (command.Reach name n) = (LEAST_REACH ≤ n) × (n ≤ MOST_REACH)
 Keeps other = ⊤
 
 -- a command that was read keeps it
@@ -37,10 +50,19 @@ abbrev KeepsOk : Result Command Refusal → Type 0
 KeepsOk (Ok c) = Keeps c
 KeepsOk (Err refusal) = ⊤
 
+-- a reading that isn't refused
+abbrev read_so : {A : Type 0} → A → Result A Refusal
+read_so a = Ok a
+
 -- one step, and then the command
 then : {A : Type 0} (r : Result A Refusal) (f : A → Result Command Refusal) → ((a : A) → KeepsOk (f a)) → KeepsOk (r >>= f)
 then (Ok a) f h = h a
 then (Err refusal) f h = tt
+
+-- the same with what the step gave
+then_of : {A : Type 0} (r : Result A Refusal) (f : A → Result Command Refusal) → ((a : A) → r ≡ Ok a → KeepsOk (f a)) → KeepsOk (r >>= f)
+then_of (Ok a) f h = h a refl
+then_of (Err refusal) f h = tt
 
 -- ---- values
 
@@ -85,6 +107,50 @@ fits_of_values a ws = by_reading (fractions ws) (all_fractions ws)
     by_reading (Ok all) h = by_end all (ends_in_zero all) refl h
     by_reading (Err refusal) h = tt
 
+-- ---- names, ranges and reaches
+
+same_ok : {A : Type 0} (x y : A) → read_so x ≡ Ok y → x ≡ y
+same_ok x y h = cc
+
+-- a test, and then what was tested
+tested : {A : Type 0} (b : Bool) (x y : A) (refusal : Refusal) → cond b (read_so x) (Err refusal) ≡ Ok y → (b ≡ true) × (x ≡ y)
+tested true x y refusal h = (refl, same_ok x y h)
+tested false x y refusal h = cc
+
+both : (a b : Bool) → (a && b) ≡ true → (a ≡ true) × (b ≡ true)
+both true b h = (refl, h)
+both false b h = cc
+
+is_false : (b : Bool) → not b ≡ true → b ≡ false
+is_false true h = cc
+is_false false h = refl
+
+at_most : (a b : ℕ) → nat_le a b ≡ true → a ≤ b
+at_most a b h = grind (arith, nat_tests)
+
+new_name_is_free : (word a : List ℕ) → new_name word ≡ Ok a → is_reserved a ≡ false
+new_name_is_free word a h =
+    let t = tested (is_name word && not (is_reserved word)) word a BadName h in
+    subst (λ n. is_reserved n ≡ false) t.1 (is_false (is_reserved word) (both (is_name word) (not (is_reserved word)) t.0).1)
+
+names_are_words : (ws es : List (List ℕ)) → names ws ≡ Ok es → ws ≡ es
+names_are_words ws es h = (tested (list_all is_name ws) ws es BadName h).1
+
+range_is_one : (word : List ℕ) (r : Bounds) → range word ≡ Ok r → IsRange r
+range_is_one word r h = by_range (range_of word) (λ b is. range_of-IsRange word b is) h
+  where
+    by_range : (o : Option Bounds) → ((b : Bounds) → o ≡ Some b → IsRange b) → option_map_or (λ bounds. read_so bounds) o (Err BadCategory) ≡ Ok r → IsRange r
+    by_range None is k = cc
+    by_range (Some b) is k = subst IsRange (same_ok b r k) (is b refl)
+
+reach_is_one : (word : List ℕ) (n : ℕ) → reach word ≡ Ok n → (LEAST_REACH ≤ n) × (n ≤ MOST_REACH)
+reach_is_one word n h =
+    let value = digits_value 10 word in
+    let t = tested (is_reach word) value n BadNumber h in
+    let within = both (nat_le LEAST_REACH value) (nat_le value MOST_REACH)
+    (both (is_numeral word) (nat_le LEAST_REACH value && nat_le value MOST_REACH) t.0).1 in
+    subst (λ k. (LEAST_REACH ≤ k) × (k ≤ MOST_REACH)) t.1 (at_most LEAST_REACH value within.0, at_most value MOST_REACH within.1)
+
 -- ---- forms
 
 fits_keep : (ws : List (List ℕ)) (held : Held) → KeepsOk (forms_fits ws held)
@@ -98,12 +164,14 @@ unfolding forms_criterion
 criterion_keeps [] held = tt
 criterion_keeps (x ∷ []) held = tt
 criterion_keeps (x ∷ y ∷ []) held = tt
-criterion_keeps (x ∷ y ∷ z ∷ more) held = then (new_name x) _ (λ a. then (names (y ∷ z ∷ more)) _ (λ elements. tt))
+criterion_keeps (x ∷ y ∷ z ∷ more) held =
+    then_of (new_name x) _ (λ a free. then_of (names (y ∷ z ∷ more)) _ (λ elements are.
+    (subst (λ es. 2 ≤ length es) (names_are_words (y ∷ z ∷ more) elements are) (omega arith), new_name_is_free x a free)))
 
 judge_keeps : (ws : List (List ℕ)) (held : Held) → KeepsOk (forms_judge ws held)
 unfolding forms_judge
 judge_keeps ws held =
-    then (four_words ws) _ (λ w. then (name w.0) _ (λ a. then (name w.1) _ (λ b. then (name w.2) _ (λ c. then (range w.3) _ (λ r. tt)))))
+    then (four_words ws) _ (λ w. then (name w.0) _ (λ a. then (name w.1) _ (λ b. then (name w.2) _ (λ c. then_of (range w.3) _ (λ r is. range_is_one w.3 r is)))))
 
 order_keeps : (ws : List (List ℕ)) (held : Held) → KeepsOk (forms_weigh_order ws held)
 unfolding forms_weigh_order
@@ -112,11 +180,11 @@ order_keeps (x ∷ more) held = then (names (x ∷ more)) _ (λ order. tt)
 
 weigh_keeps : (ws : List (List ℕ)) (held : Held) → KeepsOk (forms_weigh ws held)
 unfolding forms_weigh
-weigh_keeps ws held = then (three_words ws) _ (λ w. then (name w.0) _ (λ a. then (name w.1) _ (λ b. then (range w.2) _ (λ r. tt))))
+weigh_keeps ws held = then (three_words ws) _ (λ w. then (name w.0) _ (λ a. then (name w.1) _ (λ b. then_of (range w.2) _ (λ r is. range_is_one w.2 r is))))
 
 reach_keeps : (ws : List (List ℕ)) (held : Held) → KeepsOk (forms_reach_of ws held)
 unfolding forms_reach_of
-reach_keeps ws held = then (two_words ws) _ (λ w. then (name w.0) _ (λ a. then (reach w.1) _ (λ n. tt)))
+reach_keeps ws held = then (two_words ws) _ (λ w. then (name w.0) _ (λ a. then_of (reach w.1) _ (λ n is. reach_is_one w.1 n is)))
 
 group_keeps : (ws : List (List ℕ)) (held : Held) → KeepsOk (forms_group ws held)
 unfolding forms_group
