@@ -14,3 +14,4 @@ pub mod SameLemmas
 pub mod SideLemmas
 pub mod SlackLemmas
 pub mod UnboundedLemmas
+pub mod EveryMatrix
