@@ -122,7 +122,7 @@ module _ (m : Judgements) (subject : Subject) (kept : List (Option Basic)) (kept
       → shared ≡ found → twice ≡ shared → after ≡ with_kept subject twice (with_pivots count before)
       → FindsAndKeeps m subject r (Ok shared) after × IsBasic m shared
   finds r after found shared twice is same run first second put = subst (λ r. FindsAndKeeps m subject r (Ok shared) after × IsBasic m shared) is
-      (record { count = count; found = λ _ _. run'; kept = put ∙ ap (λ b. with_kept subject b (with_pivots count before)) second }, run'.0)
+      (record { count = count; found = run'; kept = put ∙ ap (λ b. with_kept subject b (with_pivots count before)) second }, run'.0)
     where
       run' : IsFound m old (Ok shared) count
       run' = subst (λ b. IsFound m old (Ok b) count) (sym first) (subst (λ n. IsFound m n (Ok found) count) same run)
@@ -131,7 +131,7 @@ module _ (m : Judgements) (subject : Subject) (kept : List (Option Basic)) (kept
   pub finds-too_wide : (r : ResultsState) (wide : ScaleFault) → before ≡ r → made ≡ old → wide ≡ fault.TooWide → IsFound m made (Err wide) count
       → FindsAndKeeps m subject r (Err (record {})) (with_pivots count before)
   finds-too_wide r wide is same told run = subst (λ r. FindsAndKeeps m subject r (Err (record {})) (with_pivots count before)) is
-      (record { count = count; found = λ _ _. run'; kept = refl })
+      (record { count = count; found = run'; kept = refl })
     where
       run' : IsFound m old (Err fault.TooWide) count
       run' = subst (λ f. IsFound m old (Err f) count) told (subst (λ n. IsFound m n (Err wide) count) same run)

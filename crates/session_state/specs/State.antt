@@ -1,11 +1,12 @@
 -- What a session holds: a model, the models before it, and the basic scales that are kept.
-use Rattle.std.specs.Prelude.{◌≡◌, ℕ, ◌-◌, ◌<◌, ◌≤◌, Bool, true, false, List, [], ◌∷◌, ◌++◌, map, length, take, count_by, Option, Some, None, Result, Ok, Err, slice_index_or, slice_set, if◌then◌else◌}
+use Rattle.std.specs.Prelude.{◌≡◌, ℕ, ◌-◌, ◌<◌, ◌≤◌, Bool, true, false, List, [], ◌∷◌, ◌++◌, map, length, take, count_by, Option, Some, None, Result, Ok, Err, slice_index_or, slice_set, All, if◌then◌else◌}
 use Rattle.std.specs.Option.{is_some, option_map, option_and_then}
 use Rattle.circular_buffer.specs.Buffer.{keep_last, last_item}
 use Rattle.judgement_matrix.specs.Matrix.{Judgements}
 use Rattle.judgement_matrix.specs.Same.{same_judgements}
 use Rattle.model_core.specs.State.{ModelState, CriterionState, empty_model}
 use Rattle.model_core.specs.Finding.{find_criterion, criterion_at}
+use Rattle.model_core.specs.Whole.{IsWholeModel}
 use Rattle.value_scale.specs.Basic.{IsBasic}
 use Rattle.value_scale.specs.declared.basic.Basic.{Basic}
 use Rattle.session_state.specs.declared.subject.Subject.{Subject}
@@ -111,7 +112,14 @@ no_results = record { kept = []; kept_weighting = None; pivots = 0 }
 abbrev pub start_state : SessionState
 start_state = record { model = empty_model; history = []; results = no_results }
 
--- what a session keeps
-pub record IsSession (s : SessionState) : Type 0 where
+-- what the type of a session's state keeps
+pub record IsState (s : SessionState) : Type 0 where
   pub few : length s.history ≤ UNDO_STEPS
   pub results_are : AreResults s.model s.results
+
+-- what each state of a session holds: its model and those before it are whole, with matrices of their elements, and what is
+-- kept of a matrix is its basic scale as it is now
+pub record IsSession (s : SessionState) : Type 0 where
+  pub keeps : IsState s
+  pub model : IsWholeModel s.model
+  pub before : All IsWholeModel s.history

@@ -1,7 +1,7 @@
 -- How a query comes to the basic scale of a subject: it is kept, or it is found and then kept.
 use Rattle.std.specs.Prelude.{◌≡◌, ℕ, ◌<◌, ◌≤◌, length, Option, Some, None, Result, Ok, Err}
 use Rattle.frac128.specs.declared.number.TooWide.{TooWide}
-use Rattle.judgement_matrix.specs.Matrix.{Judgements, IsMatrix}
+use Rattle.judgement_matrix.specs.Matrix.{Judgements}
 use Rattle.model_core.specs.State.{ModelState}
 use Rattle.value_scale.specs.Basic.{IsFound, IsBasic}
 use Rattle.value_scale.specs.declared.basic.Basic.{Basic}
@@ -30,7 +30,7 @@ after_run subject (Err wide) count results = with_pivots count results
 pub record FindsAndKeeps (m : Judgements) (subject : Subject) (results : ResultsState) (answer : Result Basic TooWide)
     (after : ResultsState) : Type 0 where
   pub count : ℕ
-  pub found : IsMatrix m → 2 ≤ m.size → IsFound m results.pivots (as_found answer) count
+  pub found : IsFound m results.pivots (as_found answer) count
   pub kept : after ≡ after_run subject answer count results
 
 -- what is kept of it is taken; else it is found

@@ -22,13 +22,13 @@ pub struct State {
 
 impl std::marker::Model for State {
     ghost use Rattle.std.specs.Prelude.{◌≡◌, IfSome};
-    ghost use Rattle.session_state.specs.State.{SessionState, IsSession};
+    ghost use Rattle.session_state.specs.State.{SessionState, IsState};
 
     ghost Value = { SessionState };
 
     ghost view = { λ s. record { model = s.model; history = s.history; results = s.results } };
 
-    ghost invariant = { λ s. IsSession (record { model = s.model; history = s.history; results = s.results })
+    ghost invariant = { λ s. IsState (record { model = s.model; history = s.history; results = s.results })
         × IfSome s.spare (λ spare. spare ≡ s.model) };
 }
 
