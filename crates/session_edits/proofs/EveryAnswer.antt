@@ -1,20 +1,12 @@
--- Every reading of a line has an answer in every state.
+-- Every reading of a line has an answer in every state that holds.
 use Rattle.std.proofs.Common.{◌≡◌, ◌⊎◌, inl, inr, ℕ, ◌<◌, ◌≤◌, Bool, true, false, List, [], ◌∷◌, length, Option, Some, None, Result, Ok, Err, MatchBool, refl, arith, subst, pos}
 use Rattle.std.specs.Prelude.{MatchOption, ◌==◌, nat_lt}
-use Rattle.std.proofs.lemmas.Bool.{cases_lt}
 use Rattle.std.proofs.lemmas.Bool.Decides.{Decides-eqb, Decides-int_eq}
 use Rattle.integers.specs.Fraction.{Fraction}
 use Rattle.frac128.specs.declared.number.TooWide.{TooWide}
-use Rattle.judgement_matrix.specs.Matrix.{Judgements, IsMatrix}
+use Rattle.judgement_matrix.specs.Matrix.{Judgements}
 use Rattle.judgement_matrix.specs.Values.{AreValues, fraction_at}
 use Rattle.judgement_matrix.proofs.ValueLemmas.{answer_exists as fit_exists}
-use Rattle.judgement_matrix.proofs.ScaleLemmas.{IsMetBy-same, IsSmaller-same}
-use Rattle.lp_macbeth.proofs.CutLemmas.{least_scale, infeasible_iff}
-use Rattle.value_scale.specs.Basic.{IsFound}
-use Rattle.value_scale.specs.declared.basic.Basic.{Basic}
-use Rattle.value_scale.specs.declared.fault.ScaleFault.TheVariants as fault
-use Rattle.value_scale.proofs.AnswerLemmas.{HasAnswer, ScaleLaws, has_answer}
-use Rattle.value_scale.proofs.DecidedLemmas.{decided_matrix}
 use Rattle.cert_check.specs.Lines.{IsVerdict}
 use Rattle.cert_check.specs.Text.{IsTextOf, IsFirstBad}
 use Rattle.cert_check.specs.declared.text.CertText.{CertText}
@@ -30,7 +22,9 @@ use Rattle.command_read.specs.declared.block.Held.{Held}
 use Rattle.command_read.specs.declared.block.Held.TheVariants as held
 use Rattle.command_read.specs.declared.command.Command.{Command}
 use Rattle.command_read.specs.declared.command.Command.TheVariants as command
+use Rattle.std.specs.List.{AllByRecursion}
 use Rattle.model_core.specs.State.{ModelState}
+use Rattle.model_core.specs.Whole.{IsWholeModel}
 use Rattle.model_core.specs.Edits.{Edit, edited, set_matrix}
 use Rattle.model_core.specs.Finding.{find_option}
 use Rattle.model_core.specs.declared.edit.EditFault.{EditFault}
@@ -46,8 +40,10 @@ use Rattle.report_text.specs.declared.reply.Detail.{Detail}
 use Rattle.report_text.specs.declared.reply.Detail.TheVariants as detail
 use Rattle.report_text.specs.declared.reply.Reply.{Reply}
 use Rattle.report_text.specs.declared.reply.Reply.TheVariants as reply
-use Rattle.session_state.specs.State.{ResultsState, SessionState, matrix_of, kept_of, changed, undone, with_results, kept_count}
-use Rattle.session_state.specs.Taking.{as_found, after_run, Takes, TakesFrom}
+use Rattle.session_state.specs.State.{ResultsState, SessionState, IsSession, matrix_of, changed, undone, with_results, kept_count}
+use Rattle.session_state.specs.Taking.{IsSubject}
+use Rattle.session_state.proofs.SessionLemmas.{takable}
+use Rattle.session_edits.proofs.SubjectLemmas.{AreSubjects, criterion_is, weighting_is, matrix_is, all_are_subjects, tested_below}
 use Rattle.session_state.specs.declared.subject.Subject.{Subject}
 use Rattle.session_edits.specs.Refusals.{refused, number_of, or_too_wide, or_refused, ◌>>=◌}
 use Rattle.session_edits.specs.Subjects.{names_of, criterion_named, weighting_of, matrix_named, all_subjects}
@@ -67,45 +63,6 @@ use Rattle.session_edits.specs.declared.refusal.TheConstants.{UNKNOWN_COMMAND, U
 
 -- ---- what is taken
 
--- the laws that the answer of a matrix rests on
-scale_laws : (m : Judgements) → IsMatrix m → 2 ≤ m.size → ScaleLaws m
-scale_laws m is two = record {
-  alike = IsMetBy-same m;
-  compare = IsSmaller-same;
-  scales = λ z n h. least_scale m z n is two h;
-  none = (infeasible_iff m is two).0;
-}
-
--- an answer for a count, where there are such judgements
-abbrev Findable : Judgements → ℕ → Type 0
-Findable m count = (answer : Result Basic TooWide) × (after : ℕ) × (IsMatrix m → 2 ≤ m.size → IsFound m count (as_found answer) after)
-
-findable : (m : Judgements) (count : ℕ) → Findable m count
-findable m count = by_parts (decided_matrix m) (cases_lt 1 m.size)
-  where
-    of_answer : HasAnswer m count → Findable m count
-    of_answer (Ok basic, after, answered, found) = (Ok basic, after, λ is two. found)
-    of_answer (Err fault.TooWide, after, answered, found) = (Err (record {}), after, λ is two. found)
-    of_answer (Err fault.NoMemory, after, answered, found) = absurd answered
-
-    by_parts : IsMatrix m ⊎ ¬ IsMatrix m → (1 < m.size) ⊎ (m.size ≤ 1) → Findable m count
-    by_parts (inl is) (inl two) = of_answer (has_answer m is (scale_laws m is two) two count)
-    by_parts (inr not) size = (Err (record {}), count, λ is two. absurd (not is))
-    by_parts (inl is) (inr small) = (Err (record {}), count, λ is two. absurd (omega arith))
-
--- a basic scale that is taken
-abbrev Takable : ModelState → Subject → ResultsState → Type 0
-Takable m subject results = (answer : Result Basic TooWide) × (after : ResultsState) × Takes m subject results answer after
-
-takable : (m : ModelState) (subject : Subject) (results : ResultsState) → Takable m subject results
-takable m subject results = by_kept (kept_of results subject)
-  where
-    by_kept : (kept : Option Basic) → (answer : Result Basic TooWide) × (after : ResultsState) × TakesFrom kept (matrix_of m subject) subject results answer after
-    by_kept (Some basic) = (Ok basic, results, (refl, refl))
-    by_kept None =
-        let h = findable (matrix_of m subject) results.pivots in
-        (h.0, after_run subject h.0 h.1 results, record { count = h.1; found = h.2; kept = refl })
-
 abbrev AllTakable : ModelState → List Subject → ResultsState → Type 0
 AllTakable m subjects results =
     (worths : Result (List (List Fraction)) Reply) × (after : ResultsState) × TakesAll m subjects results worths after
@@ -117,11 +74,12 @@ behind : (m : ModelState) (subjects : List Subject) → ((results : ResultsState
 behind m subjects others mid (Err refusal) = (Err refusal, mid, (refl, refl))
 behind m subjects others mid (Ok worth) = let k = others mid in (with_worth (Ok worth) k.0, k.1, (k.0, k.2, refl))
 
-all_takable : (m : ModelState) (subjects : List Subject) (results : ResultsState) → AllTakable m subjects results
-all_takable m [] results = (Ok [], results, (refl, refl))
-all_takable m (subject ∷ subjects) results =
-    let h = takable m subject results in
-    let k = behind m subjects (λ mid. all_takable m subjects mid) h.1 (worth_of m subject h.0) in
+all_takable : (m : ModelState) (subjects : List Subject) (results : ResultsState) → IsWholeModel m → AllByRecursion (IsSubject m) subjects
+    → AllTakable m subjects results
+all_takable m [] results whole are = (Ok [], results, (refl, refl))
+all_takable m (subject ∷ subjects) results whole are =
+    let h = takable m subject results whole are.0 in
+    let k = behind m subjects (λ mid. all_takable m subjects mid whole are.1) h.1 (worth_of m subject h.0) in
     (k.0, k.1, (h.0, h.1, h.2, k.2))
 
 -- ---- answers
@@ -142,44 +100,44 @@ by_test : (b : Bool) (P Q : Reply → SessionState → Type 0) → (b ≡ true �
 by_test true P Q p q = p refl
 by_test false P Q p q = q
 
-of_subject : (s : SessionState) (found : Option Subject) (Query : Subject → Reply → SessionState → Type 0)
-    → ((subject : Subject) → Answerable (Query subject)) → Answerable (Of s found Query)
-of_subject s None Query answer = refuses s UNKNOWN_CRITERION
-of_subject s (Some subject) Query answer = answer subject
+of_subject : (s : SessionState) (found : Option Subject) (Query : Subject → Reply → SessionState → Type 0) → AreSubjects s.model found
+    → ((subject : Subject) → IsSubject s.model subject → Answerable (Query subject)) → Answerable (Of s found Query)
+of_subject s None Query is answer = refuses s UNKNOWN_CRITERION
+of_subject s (Some subject) Query is answer = answer subject is
 
-asks : (s : SessionState) (question : Question) (subject : Subject) → Answerable (Asks s question subject)
-asks s question subject =
-    let h = takable s.model subject s.results in (
+asks : (s : SessionState) (question : Question) → IsSession s → (subject : Subject) → IsSubject s.model subject → Answerable (Asks s question subject)
+asks s question holds subject is =
+    let h = takable s.model subject s.results holds.model is in (
       or_refused (or_too_wide h.0 >>= λ basic. Ok (told s.model subject question basic)),
       with_results s h.1,
       (h.1, (h.0, h.2, refl), refl),
     )
 
-asks_slack : (s : SessionState) (name : List ℕ) (subject : Subject) → Answerable (AsksSlack s name subject)
-asks_slack s name subject = by_element (element_named s subject name)
+asks_slack : (s : SessionState) (name : List ℕ) → IsSession s → (subject : Subject) → IsSubject s.model subject → Answerable (AsksSlack s name subject)
+asks_slack s name holds subject is = by_element (element_named s subject name)
   where
     by_element : (found : Option ℕ) → Answerable (OfElement s found (λ element. Asks s (question.Slack element) subject))
     by_element None = refuses s UNKNOWN_ELEMENT
-    by_element (Some element) = asks s (question.Slack element) subject
+    by_element (Some element) = asks s (question.Slack element) holds subject is
 
-asks_all : (s : SessionState) (make : List (List Fraction) → Result Reply Reply) → Answerable (AsksAll s make)
-asks_all s make =
-    let h = all_takable s.model (all_subjects s.model) s.results in
+asks_all : (s : SessionState) (make : List (List Fraction) → Result Reply Reply) → IsSession s → 0 < length s.model.criteria → Answerable (AsksAll s make)
+asks_all s make holds some =
+    let h = all_takable s.model (all_subjects s.model) s.results holds.model (all_are_subjects s.model some) in
     (or_refused (h.0 >>= make), with_results s h.1, (h.1, (h.0, h.2, refl), refl))
 
-where_weighed : (s : SessionState) (os : List ℕ) (make : List (List Fraction) → Result Reply Reply) → Answerable (WhereWeighed s os make)
-where_weighed s os make =
-    by_test (nat_lt 0 (length s.model.criteria)) (WherePerformed s os make) (Refuses s UNKNOWN_CRITERION) (λ some. by_missing (missing s.model os))
-    (refuses s UNKNOWN_CRITERION)
+where_weighed : (s : SessionState) (os : List ℕ) (make : List (List Fraction) → Result Reply Reply) → IsSession s → Answerable (WhereWeighed s os make)
+where_weighed s os make holds =
+    by_test (nat_lt 0 (length s.model.criteria)) (WherePerformed s os make) (Refuses s UNKNOWN_CRITERION)
+    (λ test. by_missing (tested_below 0 (length s.model.criteria) test) (missing s.model os)) (refuses s UNKNOWN_CRITERION)
   where
-    by_missing : (first : Option Detail)
+    by_missing : 0 < length s.model.criteria → (first : Option Detail)
         → Answerable (λ r next. MatchOption first (AsksAll s make r next) (λ detail. Shows s (reply.Refused PERFORMANCE_MISSING detail) r next))
-    by_missing None = asks_all s make
-    by_missing (Some detail) = shows s (reply.Refused PERFORMANCE_MISSING detail)
+    by_missing some None = asks_all s make holds some
+    by_missing some (Some detail) = shows s (reply.Refused PERFORMANCE_MISSING detail)
 
-subtotals : (s : SessionState) (option : Option ℕ) → Answerable (TellsSubtotals s option)
-subtotals s None = refuses s UNKNOWN_OPTION
-subtotals s (Some o) = where_weighed s (o ∷ []) (checked_subtotals s.model o)
+subtotals : (s : SessionState) (option : Option ℕ) → IsSession s → Answerable (TellsSubtotals s option)
+subtotals s None holds = refuses s UNKNOWN_OPTION
+subtotals s (Some o) holds = where_weighed s (o ∷ []) (checked_subtotals s.model o) holds
 
 edits : (s : SessionState) (after : Result ModelState EditFault) → Answerable (AnswersEdited s after)
 edits s (Ok after) = (reply.Ok, changed s after, (refl, refl))
@@ -277,57 +235,57 @@ as_table Query answer = (table_reply answer.0, answer.1, (answer.0, answer.2, re
 
 -- ---- commands
 
-tells : (s : SessionState) (c : Command) → Keeps c → Answerable (Tells s c)
-tells s command.Undo keeps = undoes s (undone s)
-tells s (command.Matrix name) keeps = of_subject s (matrix_named s.model name) _ (λ subject. shows s (matrix_reply s.model subject))
-tells s (command.Rows name) keeps = of_subject s (matrix_named s.model name) _ (λ subject. shows s (rows_reply s.model subject))
-tells s (command.Fits name vs) keeps = of_subject s (matrix_named s.model name) _ (fits s vs keeps)
-tells s (command.Verify name block) keeps = of_subject s (matrix_named s.model name) _ (verifies s block)
-tells s (command.Scale name) keeps = of_subject s (criterion_named s.model name) _ (asks s question.Scale)
-tells s (command.Cert name) keeps = of_subject s (criterion_named s.model name) _ (asks s question.Cert)
-tells s (command.Anchored name) keeps = of_subject s (criterion_named s.model name) _ (asks s question.Worth)
-tells s (command.Slack name element) keeps = of_subject s (criterion_named s.model name) _ (asks_slack s element)
-tells s command.Weights keeps = of_subject s (weighting_of s.model) _ (asks s question.Worth)
-tells s command.Wcert keeps = of_subject s (weighting_of s.model) _ (asks s question.Cert)
-tells s command.Scores keeps = where_weighed s (option_places s.model) (checked_scores s.model)
-tells s (command.Subtotals name) keeps = subtotals s (find_option s.model name)
-tells s command.Groups keeps = shows s (groups_reply s.model)
-tells s command.Stats keeps = shows s (reply.Stats s.results.pivots (kept_count s.results))
-tells s command.Quit keeps = shows s reply.Ok
-tells s (command.Load a) keeps = of_held s a (ReadsModel s) (λ bytes. reads s (load_of bytes) (load_never_wants_memory bytes))
-tells s (command.Option a) keeps = refuses s UNKNOWN_COMMAND
-tells s (command.DropOption a) keeps = refuses s UNKNOWN_COMMAND
-tells s (command.Criterion a b) keeps = refuses s UNKNOWN_COMMAND
-tells s (command.DropCriterion a) keeps = refuses s UNKNOWN_COMMAND
-tells s (command.Refs a b c) keeps = refuses s UNKNOWN_COMMAND
-tells s (command.Judge a b c d) keeps = refuses s UNKNOWN_COMMAND
-tells s (command.Unjudge a b c) keeps = refuses s UNKNOWN_COMMAND
-tells s (command.Perform a b c) keeps = refuses s UNKNOWN_COMMAND
-tells s (command.WeighOrder a) keeps = refuses s UNKNOWN_COMMAND
-tells s (command.Weigh a b c) keeps = refuses s UNKNOWN_COMMAND
-tells s (command.Unweigh a b) keeps = refuses s UNKNOWN_COMMAND
-tells s (command.Reach a b) keeps = refuses s UNKNOWN_COMMAND
-tells s (command.Import a b) keeps = of_subject s (matrix_named s.model a) _ (λ subject. of_held s b (ReadsTable s a subject) (reads_table s a subject))
-tells s (command.Repairs a) keeps = refuses s UNKNOWN_COMMAND
-tells s command.Wrepairs keeps = refuses s UNKNOWN_COMMAND
-tells s (command.Dominance a b) keeps = refuses s UNKNOWN_COMMAND
-tells s (command.Dcert a b) keeps = refuses s UNKNOWN_COMMAND
-tells s command.Dominances keeps = refuses s UNKNOWN_COMMAND
-tells s (command.ExportMatrix a) keeps = of_subject s (matrix_named s.model a) _ (λ subject. shows s (judged_table s.model subject))
-tells s (command.ExportAnchored a) keeps = as_table _ (of_subject s (criterion_named s.model a) _ (asks s question.Worth))
-tells s command.ExportWeights keeps = as_table _ (of_subject s (weighting_of s.model) _ (asks s question.Worth))
-tells s command.ExportScores keeps = as_table _ (where_weighed s (option_places s.model) (checked_scores s.model))
-tells s command.Dump keeps = shows s (dump_reply s.model)
-tells s (command.Group a b) keeps = refuses s UNKNOWN_COMMAND
-tells s (command.DropGroup a) keeps = refuses s UNKNOWN_COMMAND
-tells s (command.Place a b) keeps = refuses s UNKNOWN_COMMAND
-tells s (command.Unplace a) keeps = refuses s UNKNOWN_COMMAND
+tells : (s : SessionState) (c : Command) → Keeps c → IsSession s → Answerable (Tells s c)
+tells s command.Undo keeps holds = undoes s (undone s)
+tells s (command.Matrix name) keeps holds = of_subject s (matrix_named s.model name) _ (matrix_is s.model name) (λ subject is. shows s (matrix_reply s.model subject))
+tells s (command.Rows name) keeps holds = of_subject s (matrix_named s.model name) _ (matrix_is s.model name) (λ subject is. shows s (rows_reply s.model subject))
+tells s (command.Fits name vs) keeps holds = of_subject s (matrix_named s.model name) _ (matrix_is s.model name) (λ subject is. fits s vs keeps subject)
+tells s (command.Verify name block) keeps holds = of_subject s (matrix_named s.model name) _ (matrix_is s.model name) (λ subject is. verifies s block subject)
+tells s (command.Scale name) keeps holds = of_subject s (criterion_named s.model name) _ (criterion_is s.model name) (asks s question.Scale holds)
+tells s (command.Cert name) keeps holds = of_subject s (criterion_named s.model name) _ (criterion_is s.model name) (asks s question.Cert holds)
+tells s (command.Anchored name) keeps holds = of_subject s (criterion_named s.model name) _ (criterion_is s.model name) (asks s question.Worth holds)
+tells s (command.Slack name element) keeps holds = of_subject s (criterion_named s.model name) _ (criterion_is s.model name) (asks_slack s element holds)
+tells s command.Weights keeps holds = of_subject s (weighting_of s.model) _ (weighting_is s.model) (asks s question.Worth holds)
+tells s command.Wcert keeps holds = of_subject s (weighting_of s.model) _ (weighting_is s.model) (asks s question.Cert holds)
+tells s command.Scores keeps holds = where_weighed s (option_places s.model) (checked_scores s.model) holds
+tells s (command.Subtotals name) keeps holds = subtotals s (find_option s.model name) holds
+tells s command.Groups keeps holds = shows s (groups_reply s.model)
+tells s command.Stats keeps holds = shows s (reply.Stats s.results.pivots (kept_count s.results))
+tells s command.Quit keeps holds = shows s reply.Ok
+tells s (command.Load a) keeps holds = of_held s a (ReadsModel s) (λ bytes. reads s (load_of bytes) (load_never_wants_memory bytes))
+tells s (command.Option a) keeps holds = refuses s UNKNOWN_COMMAND
+tells s (command.DropOption a) keeps holds = refuses s UNKNOWN_COMMAND
+tells s (command.Criterion a b) keeps holds = refuses s UNKNOWN_COMMAND
+tells s (command.DropCriterion a) keeps holds = refuses s UNKNOWN_COMMAND
+tells s (command.Refs a b c) keeps holds = refuses s UNKNOWN_COMMAND
+tells s (command.Judge a b c d) keeps holds = refuses s UNKNOWN_COMMAND
+tells s (command.Unjudge a b c) keeps holds = refuses s UNKNOWN_COMMAND
+tells s (command.Perform a b c) keeps holds = refuses s UNKNOWN_COMMAND
+tells s (command.WeighOrder a) keeps holds = refuses s UNKNOWN_COMMAND
+tells s (command.Weigh a b c) keeps holds = refuses s UNKNOWN_COMMAND
+tells s (command.Unweigh a b) keeps holds = refuses s UNKNOWN_COMMAND
+tells s (command.Reach a b) keeps holds = refuses s UNKNOWN_COMMAND
+tells s (command.Import a b) keeps holds = of_subject s (matrix_named s.model a) _ (matrix_is s.model a) (λ subject is. of_held s b (ReadsTable s a subject) (reads_table s a subject))
+tells s (command.Repairs a) keeps holds = refuses s UNKNOWN_COMMAND
+tells s command.Wrepairs keeps holds = refuses s UNKNOWN_COMMAND
+tells s (command.Dominance a b) keeps holds = refuses s UNKNOWN_COMMAND
+tells s (command.Dcert a b) keeps holds = refuses s UNKNOWN_COMMAND
+tells s command.Dominances keeps holds = refuses s UNKNOWN_COMMAND
+tells s (command.ExportMatrix a) keeps holds = of_subject s (matrix_named s.model a) _ (matrix_is s.model a) (λ subject is. shows s (judged_table s.model subject))
+tells s (command.ExportAnchored a) keeps holds = as_table _ (of_subject s (criterion_named s.model a) _ (criterion_is s.model a) (asks s question.Worth holds))
+tells s command.ExportWeights keeps holds = as_table _ (of_subject s (weighting_of s.model) _ (weighting_is s.model) (asks s question.Worth holds))
+tells s command.ExportScores keeps holds = as_table _ (where_weighed s (option_places s.model) (checked_scores s.model) holds)
+tells s command.Dump keeps holds = shows s (dump_reply s.model)
+tells s (command.Group a b) keeps holds = refuses s UNKNOWN_COMMAND
+tells s (command.DropGroup a) keeps holds = refuses s UNKNOWN_COMMAND
+tells s (command.Place a b) keeps holds = refuses s UNKNOWN_COMMAND
+tells s (command.Unplace a) keeps holds = refuses s UNKNOWN_COMMAND
 
--- a command has an answer in every state
-pub every_command_has_an_answer : (s : SessionState) (c : Command) → Keeps c → Answerable (Answer s c)
-every_command_has_an_answer s c keeps =
+-- a command has an answer in every state that holds
+pub every_command_has_an_answer : (s : SessionState) (c : Command) → Keeps c → IsSession s → Answerable (Answer s c)
+every_command_has_an_answer s c keeps holds =
     by_test (is_done_later c) _ _ (λ later. refuses s UNKNOWN_COMMAND) (by_edit (edit_of c))
   where
     by_edit : (edit : Option Edit) → Answerable (AnswersBy edit s c)
     by_edit (Some edit) = edits s (edited s.model edit)
-    by_edit None = tells s c keeps
+    by_edit None = tells s c keeps holds

@@ -12,3 +12,5 @@ pub mod UnderLemmas
 pub mod WorthLemmas
 pub mod TextLemmas
 pub mod SplitLemmas
+pub mod SubjectLemmas
+pub mod HoldLemmas
