@@ -1,6 +1,6 @@
 ghost use Rattle.std.specs.Prelude.{◌≡◌, ◌≤◌, ◌+◌, ℕ, IfOk, nat_lt, if◌then◌else◌};
 ghost use Rattle.transcript.specs.Tally.{tally_rules, tally_text, tally_quits, next_count};
-ghost use Rattle.transcript.specs.TallyLaw.{tally_total};
+ghost use Rattle.transcript.specs.TallyLaw.{tally_begins, tally_keeps, tally_total};
 
 use line_io::{MemSink, MemSource, NeverSink, NeverSource, Sink, Source};
 use std::alloc::{AllocError, Global};
@@ -47,6 +47,10 @@ impl Service for Tally {
         }
         Ok(answered)
     }
+
+    ghost begins = { tally_begins };
+
+    ghost keeps = { tally_keeps };
 
     ghost total = { tally_total };
 }

@@ -1,4 +1,4 @@
--- The rules of a session: what it answers to an entry, and what ends it.
+-- The rules of a session: what its states hold, what it answers to an entry, and what ends it.
 use Rattle.std.specs.Prelude.{◌≡◌, ℕ, Bool, true, false, List, []}
 use Rattle.command_read.specs.Reading.{command_of, takes_block}
 use Rattle.command_read.specs.declared.block.Held.{Held}
@@ -10,7 +10,7 @@ use Rattle.command_read.specs.declared.command.Parsed.TheVariants.{Nothing, Do, 
 use Rattle.report_text.specs.Refusals.{IsRefusal}
 use Rattle.report_text.specs.Reply.{reply_text}
 use Rattle.report_text.specs.declared.reply.Reply.{Reply}
-use Rattle.session_state.specs.State.{SessionState}
+use Rattle.session_state.specs.State.{SessionState, IsSession}
 use Rattle.session_edits.specs.Answer.{Answer}
 use Rattle.session_edits.specs.Refusals.{refused}
 use Rattle.session_edits.specs.declared.refusal.TheConstants.{LINE_TOO_LONG}
@@ -58,7 +58,12 @@ abbrev pub session_quits : Entry → Bool
 session_quits entry = is_quit (parsed_entry entry)
 
 abbrev pub session_rules : Rules SessionState
-session_rules = record { answers = SessionAnswers; takes_block = takes_block; quits = session_quits }
+session_rules = record {
+  holds = IsSession;
+  answers = SessionAnswers;
+  takes_block = takes_block;
+  quits = session_quits;
+}
 
 -- a refusal has words
 abbrev pub HasRefusal : Parsed → Type 0

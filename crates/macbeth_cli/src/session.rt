@@ -5,7 +5,7 @@ ghost use Rattle.command_read.specs.Reading.{command_of};
 ghost use Rattle.report_text.specs.Reply.{IsPrintable, reply_text};
 ghost use Rattle.session_state.specs.State.{start_state};
 ghost use Rattle.macbeth_cli.specs.Session.{session_rules, parsed_entry, AnswersParsed, is_quit, ends_session, HasRefusal};
-ghost use Rattle.macbeth_cli.specs.SessionLaw.{session_total};
+ghost use Rattle.macbeth_cli.specs.SessionLaw.{session_begins, session_keeps, session_total};
 
 use command_read::laws::readings;
 use command_read::{Block, Command, Parsed, read_command, takes_block};
@@ -47,6 +47,10 @@ impl Service for SessionMode {
     fn answer(&mut self, alloc: Global, entry: &Entry) -> Result<Answered, NoMemory> {
         answer_entry(alloc, &mut self.session, entry)
     }
+
+    ghost begins = { session_begins };
+
+    ghost keeps = { session_keeps };
 
     ghost total = { session_total };
 }

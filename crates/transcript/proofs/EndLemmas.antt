@@ -5,7 +5,7 @@ use Rattle.std.proofs.lemmas.Bool.{true≢false}
 use Rattle.std.proofs.lemmas.List.{append-nil}
 use Rattle.line_io.proofs.OutsideLemmas.{Took-nil, Took-append, Put-nil, Put-append, Rose-earlier}
 use Rattle.transcript.specs.Entry.{Entry}
-use Rattle.transcript.specs.Rules.{Rules, IsTotal}
+use Rattle.transcript.specs.Rules.{Rules, IsKept, IsTotal}
 use Rattle.transcript.specs.Entries.{AreEntries}
 use Rattle.transcript.specs.Transcript.{up_to_quit, Answers, Replies, IsTranscript}
 use Rattle.line_io.specs.Lines.{Progress, Takes, IsOver}
@@ -17,7 +17,7 @@ use Rattle.transcript.specs.declared.status.Status.{Status}
 use Rattle.transcript.specs.declared.status.Status.TheVariants.{Done, BadWords, ReadFault, WriteFault, NoMemory, InputLimit}
 use Rattle.transcript.specs.declared.turn.Turn.TheVariants.{Ends}
 use Rattle.transcript.proofs.EntriesLemmas.{reads_more, reads_taken, reads_over, reads_open, no_entries, GoesOn, goes_on}
-use Rattle.transcript.proofs.TranscriptLemmas.{Answers-append, Answers-one, answers_exist, behind, up_to_quit-cons, up_to_quit-append, up_to_quit-all, up_to_quit-quit, has_quit-found, take_answered}
+use Rattle.transcript.proofs.TranscriptLemmas.{Answers-append, Answers-one, answered, answers_exist, behind, up_to_quit-cons, up_to_quit-append, up_to_quit-all, up_to_quit-quit, has_quit-found, take_answered}
 use Rattle.transcript.proofs.ReachedLemmas.{Reached, EndsRightly, call, later, ends_more}
 use Rattle.transcript.proofs.TableLemmas.{runs}
 
@@ -31,14 +31,14 @@ at_the_end q b bytes ends seen counted = let h = ends seen in (omega (arith, h.1
 
 module _ {S : Type 0} (rules : Rules S) (first : S) where
   -- entries without a `quit`, all of them answered
-  all_replies : (entries : List Entry) (text : List ℕ) (state : S) → list_any rules.quits entries ≡ false → Answers rules first entries text state
-      → Replies rules first (up_to_quit rules.quits entries) text
-  all_replies entries text state none answers =
-      record { last = state; answers = subst (λ (es : List Entry). Answers rules first es text state) (sym (up_to_quit-all rules.quits entries none)) answers }
+  all_replies : (entries : List Entry) (text : List ℕ) (state : S) → rules.holds first → list_any rules.quits entries ≡ false
+      → Answers rules first entries text state → Replies rules first (up_to_quit rules.quits entries) text
+  all_replies entries text state begins none answers =
+      record { last = state; begins = begins; answers = subst (λ (es : List Entry). Answers rules first es text state) (sym (up_to_quit-all rules.quits entries none)) answers }
 
   -- nothing was taken and nothing written, since memory ran out
-  pub nothing_told : (left held : Option (List ℕ)) (m n o r : ℕ) → IsTold rules first NoMemory (change left left m n) (change held held o r)
-  nothing_told left held m n o r = record {
+  pub nothing_told : rules.holds first → (left held : Option (List ℕ)) (m n o r : ℕ) → IsTold rules first NoMemory (change left left m n) (change held held o r)
+  nothing_told begins left held m n o r = record {
     bytes = [];
     text = [];
     took = Took-nil left;
@@ -49,11 +49,11 @@ module _ {S : Type 0} (rules : Rules S) (first : S) where
       entries = [];
       are = no_entries rules.takes_block false;
       count = 0;
-      replies = record { last = first; answers = (refl, refl) };
+      replies = record { last = first; begins = begins; answers = (refl, refl) };
     };
   }
 
-  module _ (total : IsTotal rules) (source sink : Change) (p q : Position) (b : Option (List ℕ)) (m : ℕ) (held : Option (List ℕ)) (n : ℕ) (s t : S)
+  module _ (keeps : IsKept rules) (total : IsTotal rules) (source sink : Change) (p q : Position) (b : Option (List ℕ)) (m : ℕ) (held : Option (List ℕ)) (n : ℕ) (s t : S)
       (reach : Reached rules first source sink p s) (taken : List ℕ)
       (goes : Takes p.progress q.progress (change source.told_new b source.faults_new m) taken) where
     -- the bytes and the text of all calls
@@ -86,7 +86,7 @@ module _ {S : Type 0} (rules : Rules S) (first : S) where
       entries = reach.entries;
       are = are;
       quit = reach.no_quit;
-      replies = all_replies reach.entries reach.text s reach.no_quit
+      replies = all_replies reach.entries reach.text s reach.begins reach.no_quit
           reach.answers;
     }
 
@@ -125,6 +125,7 @@ module _ {S : Type 0} (rules : Rules S) (first : S) where
           count = length reach.entries;
           replies = record {
             last = s;
+            begins = reach.begins;
             answers = subst (λ (es : List Entry). Answers rules first es reach.text s) (sym (take_answered rules.quits reach.entries h.more reach.no_quit))
                 reach.answers;
           };
@@ -156,9 +157,10 @@ module _ {S : Type 0} (rules : Rules S) (first : S) where
           quit = has_quit-found rules.quits reach.entries q.entry h.more reach.no_quit a.quit;
           replies = record {
             last = t;
+            begins = reach.begins;
             answers = subst (λ (es : List Entry). Answers rules first es text t)
                 (sym (up_to_quit-quit rules.quits reach.entries q.entry h.more reach.no_quit a.quit))
-                (Answers-append rules first s t reach.entries (q.entry ∷ []) reach.text a.text reach.answers (Answers-one rules s t q.entry a.text a.answer));
+                (Answers-append rules first s t reach.entries (q.entry ∷ []) reach.text a.text reach.answers (Answers-one rules s t q.entry a.text (answered rules keeps s t q.entry a.text reach.holds a.answer)));
           };
         }))
 
@@ -170,7 +172,8 @@ module _ {S : Type 0} (rules : Rules S) (first : S) where
         let text = reach.text ++ front.written in
         let h = further g in
         let rest = behind rules.quits q.entry h.more in
-        let tail = answers_exist rules total a.next rest in
+        let is = answered rules keeps s a.next q.entry a.text reach.holds a.answer in
+        let tail = answers_exist rules keeps total a.next rest is.after in
         let all = reach.entries ++ q.entry ∷ [] ++ h.more in
         let all_is : up_to_quit rules.quits all ≡ reach.entries ++ (q.entry ∷ rest) =
         ap (up_to_quit rules.quits) (append_assoc reach.entries (q.entry ∷ []) h.more)
@@ -182,7 +185,7 @@ module _ {S : Type 0} (rules : Rules S) (first : S) where
         in
         let answers : Answers rules first (reach.entries ++ (q.entry ∷ rest)) (reach.text ++ (a.text ++ tail.text)) tail.next =
         Answers-append rules first s tail.next reach.entries (q.entry ∷ rest) reach.text (a.text ++ tail.text) reach.answers
-        (a.text, a.next, tail.text, a.answer, refl, tail.answers) in
+        (a.text, a.next, tail.text, is, refl, tail.answers) in
         told_more WriteFault text (Put-append sink.told_old sink.told_new held reach.text front.written reach.put front.put)
         (record {
           ended = h.seen;
@@ -195,6 +198,7 @@ module _ {S : Type 0} (rules : Rules S) (first : S) where
             quit = refl;
             replies = record {
               last = tail.next;
+              begins = reach.begins;
               answers = subst (λ (es : List Entry). Answers rules first es (text ++ (front.rest ++ tail.text)) tail.next) (sym all_is)
                   (subst (λ (u : List ℕ). Answers rules first (reach.entries ++ (q.entry ∷ rest)) u tail.next) (sym whole) answers);
             };
@@ -202,33 +206,33 @@ module _ {S : Type 0} (rules : Rules S) (first : S) where
         })
 
   -- the last turn of a run, whatever its status
-  pub ends_told : IsTotal rules → (source sink : Change) (p q : Position) (b : Option (List ℕ)) (m : ℕ) (held : Option (List ℕ)) (n : ℕ) (s t : S)
+  pub ends_told : IsKept rules → IsTotal rules → (source sink : Change) (p q : Position) (b : Option (List ℕ)) (m : ℕ) (held : Option (List ℕ)) (n : ℕ) (s t : S)
       → Reached rules first source sink p s → (status : Status)
       → Turns rules p q (call source b m) s t (call sink held n) (Ends status)
       → IsTold rules first status (change source.told_old b source.faults_old m) (change sink.told_old held sink.faults_old n)
-  ends_told total source sink p q b m held n s t reach Done turns = by_turn turns.does
+  ends_told keeps total source sink p q b m held n s t reach Done turns = by_turn turns.does
     where
       by_turn : (IsOver p.progress q.progress (p.progress.in_hand ++ turns.bytes) × Put sink.told_new held [])
           ⊎ (GivesEntry rules.takes_block q.progress (p.progress.in_hand ++ turns.bytes) q.entry × IsAnswered rules s q.entry t (call sink held n) true)
           → IsTold rules first Done (change source.told_old b source.faults_old m) (change sink.told_old held sink.faults_old n)
-      by_turn (inl (none, silent)) = over total source sink p q b m held n s t reach turns.bytes turns.goes none silent
-      by_turn (inr (g, a)) = quit total source sink p q b m held n s t reach turns.bytes turns.goes g a
-  ends_told total source sink p q b m held n s t reach ReadFault turns =
+      by_turn (inl (none, silent)) = over keeps total source sink p q b m held n s t reach turns.bytes turns.goes none silent
+      by_turn (inr (g, a)) = quit keeps total source sink p q b m held n s t reach turns.bytes turns.goes g a
+  ends_told keeps total source sink p q b m held n s t reach ReadFault turns =
       let f = turns.does.0 in
-      silently total source sink p q b m held n s t reach turns.bytes turns.goes ReadFault turns.does.1 (
-        omega (arith, f.below_limit, counted total source sink p q b m held n s t reach turns.bytes turns.goes),
-        open_end total source sink p q b m held n s t reach turns.bytes turns.goes f.not_ended f.no_entry,
+      silently keeps total source sink p q b m held n s t reach turns.bytes turns.goes ReadFault turns.does.1 (
+        omega (arith, f.below_limit, counted keeps total source sink p q b m held n s t reach turns.bytes turns.goes),
+        open_end keeps total source sink p q b m held n s t reach turns.bytes turns.goes f.not_ended f.no_entry,
       )
-  ends_told total source sink p q b m held n s t reach WriteFault turns =
-      cut_short total source sink p q b m held n s t reach turns.bytes turns.goes turns.does.0 turns.does.1
-  ends_told total source sink p q b m held n s t reach NoMemory turns = no_memory total source sink p q b m held n s t reach turns.bytes turns.goes turns.does
-  ends_told total source sink p q b m held n s t reach InputLimit turns =
+  ends_told keeps total source sink p q b m held n s t reach WriteFault turns =
+      cut_short keeps total source sink p q b m held n s t reach turns.bytes turns.goes turns.does.0 turns.does.1
+  ends_told keeps total source sink p q b m held n s t reach NoMemory turns = no_memory keeps total source sink p q b m held n s t reach turns.bytes turns.goes turns.does
+  ends_told keeps total source sink p q b m held n s t reach InputLimit turns =
       let f = turns.does.0 in
-      silently total source sink p q b m held n s t reach turns.bytes turns.goes InputLimit turns.does.1 (
-        sym (counted total source sink p q b m held n s t reach turns.bytes turns.goes) ∙ f.at_limit,
-        open_end total source sink p q b m held n s t reach turns.bytes turns.goes f.not_ended f.no_entry,
+      silently keeps total source sink p q b m held n s t reach turns.bytes turns.goes InputLimit turns.does.1 (
+        sym (counted keeps total source sink p q b m held n s t reach turns.bytes turns.goes) ∙ f.at_limit,
+        open_end keeps total source sink p q b m held n s t reach turns.bytes turns.goes f.not_ended f.no_entry,
       )
-  ends_told total source sink p q b m held n s t reach BadWords turns = absurd turns.does
+  ends_told keeps total source sink p q b m held n s t reach BadWords turns = absurd turns.does
 
   -- its status has its causes
   rose_read : (source sink : Change) (p q : Position) (b : Option (List ℕ)) (m : ℕ) (held : Option (List ℕ)) (n : ℕ) (s t : S)
@@ -251,14 +255,14 @@ module _ {S : Type 0} (rules : Rules S) (first : S) where
   rose_write source sink p q b m held n s t reach NoMemory turns is = absurd (cc)
   rose_write source sink p q b m held n s t reach InputLimit turns is = absurd (cc)
 
-  pub ends_run : IsTotal rules → (source sink : Change) (p q : Position) (b : Option (List ℕ)) (m : ℕ) (held : Option (List ℕ)) (n : ℕ) (s t : S)
+  pub ends_run : IsKept rules → IsTotal rules → (source sink : Change) (p q : Position) (b : Option (List ℕ)) (m : ℕ) (held : Option (List ℕ)) (n : ℕ) (s t : S)
       → Reached rules first source sink p s → (status : Status)
       → Turns rules p q (call source b m) s t (call sink held n) (Ends status) → Runs rules first status (later source b m) (later sink held n)
-  ends_run total source sink p q b m held n s t reach status turns =
-      runs rules first status (later source b m) (later sink held n) (ends_told total source sink p q b m held n s t reach status turns)
+  ends_run keeps total source sink p q b m held n s t reach status turns =
+      runs rules first status (later source b m) (later sink held n) (ends_told keeps total source sink p q b m held n s t reach status turns)
       (rose_read source sink p q b m held n s t reach status turns) (rose_write source sink p q b m held n s t reach status turns)
 
   -- nothing happened, since memory ran out
-  pub never_runs : (left held : Option (List ℕ)) (m n : ℕ) → Runs rules first NoMemory (change left left m m) (change held held n n)
-  never_runs left held m n = runs rules first NoMemory (change left left m m) (change held held n n) (nothing_told left held m m n n) (λ is. absurd (cc))
+  pub never_runs : rules.holds first → (left held : Option (List ℕ)) (m n : ℕ) → Runs rules first NoMemory (change left left m m) (change held held n n)
+  never_runs begins left held m n = runs rules first NoMemory (change left left m m) (change held held n n) (nothing_told begins left held m m n n) (λ is. absurd (cc))
       (λ is. absurd (cc))

@@ -4,7 +4,7 @@ use Rattle.std.specs.List.{list_any}
 use Rattle.std.proofs.lemmas.Bool.{true≢false}
 use Rattle.line_io.proofs.OutsideLemmas.{Took-nil, Took-append, Took-same, Put-nil, Put-append}
 use Rattle.transcript.specs.Entry.{Entry}
-use Rattle.transcript.specs.Rules.{Rules}
+use Rattle.transcript.specs.Rules.{Rules, IsKept}
 use Rattle.transcript.specs.Reading.{Position}
 use Rattle.transcript.specs.Transcript.{Answers}
 use Rattle.line_io.specs.Lines.{Progress, start, Takes}
@@ -12,7 +12,7 @@ use Rattle.line_io.specs.Outside.{Change, change, Took, Put, IsAtEnd}
 use Rattle.transcript.specs.Turn.{Turns}
 use Rattle.transcript.specs.declared.turn.Turn.TheVariants.{Goes}
 use Rattle.transcript.proofs.EntriesLemmas.{IsRead, reads_none, reads_more}
-use Rattle.transcript.proofs.TranscriptLemmas.{Answers-append, Answers-one, has_quit-push}
+use Rattle.transcript.proofs.TranscriptLemmas.{Answers-append, Answers-one, answered, has_quit-push}
 
 -- the end was seen by a take at the end, before the limit
 abbrev pub EndsRightly : Progress → Option (List ℕ) → Type 0
@@ -29,15 +29,17 @@ pub record Reached {S : Type 0} (rules : Rules S) (first : S) (source sink : Cha
   pub counted : p.progress.taken ≡ length bytes
   pub no_fault : p.fault ≡ None
   pub no_quit : list_any rules.quits entries ≡ false
+  pub begins : rules.holds first
+  pub holds : rules.holds state
   pub answers : Answers rules first entries text state
   pub ends : EndsRightly p.progress source.told_new
   pub source_faults : source.faults_old ≤ source.faults_new
   pub sink_faults : sink.faults_old ≤ sink.faults_new
 
 pub reached_start : {S : Type 0} (rules : Rules S) (first : S) (left : Option (List ℕ)) (m : ℕ) (held : Option (List ℕ)) (n : ℕ) (p : Position) (s : S)
-    → p.progress ≡ start → p.fault ≡ None → s ≡ first
+    → p.progress ≡ start → p.fault ≡ None → s ≡ first → rules.holds first
     → Reached rules first (change left left m m) (change held held n n) p s
-reached_start rules first left m held n p s begins none is_first = record {
+reached_start rules first left m held n p s begins none is_first holds = record {
   bytes = [];
   text = [];
   entries = [];
@@ -47,6 +49,8 @@ reached_start rules first left m held n p s begins none is_first = record {
   counted = ap (λ (q : Progress). q.taken) begins;
   no_fault = none;
   no_quit = refl;
+  begins = holds;
+  holds = subst rules.holds (sym is_first) holds;
   answers = (refl, is_first);
   ends = λ e. absurd (true≢false (sym e ∙ ap (λ (q : Progress). q.ended) begins));
   source_faults = omega arith;
@@ -73,12 +77,13 @@ abbrev pub call : Change → Option (List ℕ) → ℕ → Change
 call all told n = change all.told_new told all.faults_new n
 
 -- one entry more
-pub reached_more : {S : Type 0} (rules : Rules S) (first : S) (source sink : Change) (p q : Position) (b : Option (List ℕ)) (m : ℕ) (held : Option (List ℕ))
+pub reached_more : {S : Type 0} (rules : Rules S) (keeps : IsKept rules) (first : S) (source sink : Change) (p q : Position) (b : Option (List ℕ)) (m : ℕ) (held : Option (List ℕ))
     (n : ℕ) (s t : S) → Reached rules first source sink p s
     → Turns rules p q (call source b m) s t (call sink held n) Goes → Reached rules first (later source b m) (later sink held n) q t
-reached_more rules first source sink p q b m held n s t reach turns =
+reached_more rules keeps first source sink p q b m held n s t reach turns =
     let g = turns.does.1 in
     let a = turns.does.2 in
+    let is = answered rules keeps s t q.entry a.text reach.holds a.answer in
     record {
       bytes = reach.bytes ++ turns.bytes;
       text = reach.text ++ a.text;
@@ -91,7 +96,9 @@ reached_more rules first source sink p q b m held n s t reach turns =
       counted = omega (arith, turns.goes.counted, reach.counted, length-append reach.bytes turns.bytes);
       no_fault = turns.does.0;
       no_quit = has_quit-push rules.quits reach.entries q.entry reach.no_quit a.quit;
-      answers = Answers-append rules first s t reach.entries (q.entry ∷ []) reach.text a.text reach.answers (Answers-one rules s t q.entry a.text a.answer);
+      begins = reach.begins;
+      holds = is.after;
+      answers = Answers-append rules first s t reach.entries (q.entry ∷ []) reach.text a.text reach.answers (Answers-one rules s t q.entry a.text is);
       ends = ends_more p.progress q.progress source.told_new b source.faults_new m turns.bytes reach.ends turns.goes;
       source_faults = omega (arith, reach.source_faults, turns.goes.faults);
       sink_faults = omega (arith, reach.sink_faults, turns.sink_faults);

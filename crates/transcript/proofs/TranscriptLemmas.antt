@@ -5,7 +5,7 @@ use Rattle.std.proofs.lemmas.Bool.{true≢false}
 use Rattle.std.proofs.lemmas.List.{append-nil, take_at}
 use Rattle.std.proofs.lemmas.List.Folds.{list_any-append}
 use Rattle.transcript.specs.Entry.{Entry}
-use Rattle.transcript.specs.Rules.{Rules, IsTotal}
+use Rattle.transcript.specs.Rules.{Rules, IsAnswer, IsKept, IsTotal}
 use Rattle.transcript.specs.Transcript.{up_to_quit, Answers}
 
 no_quit_parts : (a b : Bool) → (a || b) ≡ false → (a ≡ false) × (b ≡ false)
@@ -21,7 +21,7 @@ module _ {S : Type 0} (rules : Rules S) where
       (reply, after, others ++ t, answer, ap (λ (u : List ℕ). u ++ t) is ∙ append_assoc reply others t, Answers-append after mid next xs ys others t rest h)
 
   -- the answer to one entry
-  pub Answers-one : (state next : S) (entry : Entry) (reply : List ℕ) → rules.answers state entry reply next → Answers rules state (entry ∷ []) reply next
+  pub Answers-one : (state next : S) (entry : Entry) (reply : List ℕ) → IsAnswer rules state entry reply next → Answers rules state (entry ∷ []) reply next
   Answers-one state next entry reply answer = (reply, next, [], answer, sym (append-nil reply), (refl, refl))
 
   -- some answers to the entries
@@ -30,13 +30,20 @@ module _ {S : Type 0} (rules : Rules S) where
     pub next : S
     pub answers : Answers rules state entries text next
 
-  -- there always are some
-  pub answers_exist : IsTotal rules → (state : S) (entries : List Entry) → Some_answers state entries
-  answers_exist total state [] = record { text = []; next = state; answers = (refl, refl) }
-  answers_exist total state (entry ∷ entries) =
-      let a = total state entry in
-      let h = answers_exist total a.1 entries in
-      record { text = a.0 ++ h.text; next = h.next; answers = (a.0, a.1, h.text, a.2, refl, h.answers) }
+  -- an answer in a state that holds
+  pub answered : IsKept rules → (state next : S) (entry : Entry) (text : List ℕ) → rules.holds state → rules.answers state entry text next
+      → IsAnswer rules state entry text next
+  answered keeps state next entry text holds answer =
+      record { before = holds; answer = answer; after = keeps state next entry text holds answer }
+
+  -- in a state that holds there always are some
+  pub answers_exist : IsKept rules → IsTotal rules → (state : S) (entries : List Entry) → rules.holds state → Some_answers state entries
+  answers_exist keeps total state [] holds = record { text = []; next = state; answers = (refl, refl) }
+  answers_exist keeps total state (entry ∷ entries) holds =
+      let a = total state entry holds in
+      let is = answered keeps state a.1 entry a.0 holds a.2 in
+      let h = answers_exist keeps total a.1 entries is.after in
+      record { text = a.0 ++ h.text; next = h.next; answers = (a.0, a.1, h.text, is, refl, h.answers) }
 
 module _ (quits : Entry → Bool) where
   -- where none of the first entries is `quit`, they all come before it

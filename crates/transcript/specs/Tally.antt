@@ -1,8 +1,12 @@
 -- A small service for the tests: it counts entries.
-use Rattle.std.specs.Prelude.{◌≡◌, ℕ, ◌+◌, Bool, false, List, [], ◌∷◌, codes, nat_lt, ◌==◌, if◌then◌else◌}
+use Rattle.std.specs.Prelude.{◌≡◌, ℕ, ◌+◌, ◌≤◌, Bool, false, List, [], ◌∷◌, codes, nat_lt, ◌==◌, if◌then◌else◌}
 use Rattle.std.specs.Str.{bytes_eq}
 use Rattle.transcript.specs.Entry.{Entry, too_long, line, with_block, whole, cut, large}
 use Rattle.transcript.specs.Rules.{Rules}
+
+-- a count is a digit
+abbrev pub IsDigit : ℕ → Type 0
+IsDigit count = count ≤ 9
 
 -- it stops at 9
 abbrev pub next_count : ℕ → ℕ
@@ -34,4 +38,4 @@ tally_quits (line bytes) = bytes_eq bytes (codes "quit")
 tally_quits (with_block bytes block) = false
 
 abbrev pub tally_rules : Rules ℕ
-tally_rules = record { answers = TallyAnswers; takes_block = tally_takes; quits = tally_quits }
+tally_rules = record { holds = IsDigit; answers = TallyAnswers; takes_block = tally_takes; quits = tally_quits }

@@ -25,13 +25,14 @@ pub fn run_entries<V: Service, S: Source, K: Sink>(
     run_from(alloc, service, source, sink)
 }
 
-/// Runs a service from the state in which it is.
+/// Runs a service from the state in which it is, which has to be one that holds.
 pub fn run_from<V: Service, S: Source, K: Sink>(
     alloc: Global,
     service: V,
     source: &mut S,
     sink: &mut K,
 ) -> Status
+    requires { V.rules.holds service }
     ensures { Runs V.rules service result (change_of S.left S.faults source.old source.new)
         (change_of K.held K.faults sink.old sink.new) }
 {

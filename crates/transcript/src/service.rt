@@ -1,6 +1,6 @@
 //! What the loop knows of a service.
 ghost use Rattle.std.specs.Prelude.{◌≡◌, IfOk};
-ghost use Rattle.transcript.specs.Rules.{Rules, IsTotal};
+ghost use Rattle.transcript.specs.Rules.{Rules, IsKept, IsTotal};
 
 use crate::NoMemory;
 use crate::entry::Entry;
@@ -17,7 +17,7 @@ pub struct Answered {
 
 /// What answers entries.
 pub trait Service: Drop {
-    /// Its answers, which lines take a block, and which entries end it.
+    /// What its states hold, its answers, which lines take a block, and which entries end it.
     ghost rules: { Rules Self };
 
     /// Its state before the first entry.
@@ -45,6 +45,12 @@ pub trait Service: Drop {
             rules.answers self.old entry.now answered.text.items self.new) }
         ensures ends { IfOk result (λ answered. answered.ends ≡ rules.quits entry.now) };
 
-    /// Every entry has an answer in every state.
+    /// Its first state holds.
+    ghost begins: { rules.holds first };
+
+    /// Each answer in a state that holds leaves a state that holds.
+    ghost keeps: { IsKept rules };
+
+    /// Every entry has an answer in every state that holds.
     ghost total: { IsTotal rules };
 }
