@@ -48,7 +48,7 @@ pub record Holds (interval : Interval) (P : Fraction → Type 0) : Type 0 where
   pub high_pos : IsEndOrNone interval.high
   pub exactly : (t : Fraction) → IsFraction t → P t ↔ IsIn interval t
 
-same_members : (i : Interval) (P Q : Fraction → Type 0) → ((t : Fraction) → IsFraction t → P t ↔ Q t) → Holds i P → Holds i Q
+pub same_members : (i : Interval) (P Q : Fraction → Type 0) → ((t : Fraction) → IsFraction t → P t ↔ Q t) → Holds i P → Holds i Q
 same_members i P Q s h = record {
   low_pos = h.low_pos;
   high_pos = h.high_pos;

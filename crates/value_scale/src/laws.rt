@@ -1,15 +1,16 @@
 //! Laws of the definitions, as contracts of functions that do nothing.
 
-ghost use Rattle.std.specs.Prelude.{◌≡◌, ◌≤◌, None, ℕ, List, ℤ, pos, length, ◌<ℤ◌, ◌≤ℤ◌, ◌↔◌, IsTrue, Result as Answer};
-ghost use Rattle.integers.specs.Fraction.{Fraction, IsFraction, over, SameFractions};
+ghost use Rattle.std.specs.Prelude.{◌≡◌, ◌≤◌, None, Ok, ℕ, List, ℤ, pos, length, ◌<ℤ◌, ◌≤ℤ◌, ◌↔◌, IsTrue, Result as Answer};
+ghost use Rattle.integers.specs.Fraction.{Fraction, IsFraction, AreFractions, over, SameFractions};
 ghost use Rattle.judgement_matrix.specs.Matrix.{IsPair, Judgements};
 ghost use Rattle.judgement_matrix.specs.Scale.{value_at, IsMetBy};
 ghost use Rattle.value_scale.specs.Anchor.{IsAnchoredScale, AreReferences, NeverRise};
 ghost use Rattle.judgement_matrix.specs.Values.{AreValues};
 ghost use Rattle.value_scale.specs.Basic.{AreLeastValues, IsFound, IsAnswered, TellTheSame};
-ghost use Rattle.value_scale.specs.Slack.{IsSlack, MeetValues};
+ghost use Rattle.value_scale.specs.Narrowing.{checked_slack};
+ghost use Rattle.value_scale.specs.Slack.{IsSlack, IsSlackOf, MeetValues};
 
-use crate::{Basic, ScaleFault};
+use crate::{Basic, Interval, ScaleFault};
 use frac128::Frac;
 use frac128::laws::are_fractions;
 use judgement_matrix::Matrix;
@@ -45,6 +46,13 @@ pub fn met_values_never_rise(matrix: &Matrix, values: &[Frac])
 pub fn only_the_first_is_unbounded()
     ensures { (m : Judgements) (w : List ℤ) (n : ℤ) (element : ℕ) (low : Fraction) → IsMetBy m w n → 2 ≤ element
         → element ≤ m.size → IsFraction low → ¬ IsSlack m w n element (record { low = low; high = None }) }
+{}
+
+/// States that the interval that the formula gives is the slack of the element. It does nothing.
+pub fn worked_slacks_are_slacks()
+    ensures { (m : Judgements) (values : List Fraction) (element : ℕ) (interval : Interval)
+        → AreFractions values → MeetValues m values → 1 ≤ element → element ≤ m.size
+        → checked_slack m values element ≡ Ok interval → IsSlackOf m values element interval }
 {}
 
 /// States that the values of the least scale are those of a scale that meets the matrix: one for each element, the last one 0, and
