@@ -2,17 +2,20 @@
 use lib.IntN.{*ℤ_comm}
 use Rattle.std.specs.Int.Signed.{lt_z_yes}
 use mathlib.Core.List.{cons≢nil, head-eq_of_cons-eq, tail-eq_of_cons-eq}
-use Rattle.std.proofs.Common.{◌≡◌, ℕ, zero, suc, ◌+◌, ◌-◌, ◌<◌, ◌≤◌, ℤ, pos, ◌+ℤ◌, ◌-ℤ◌, ◌*ℤ◌, ◌≤ℤ◌, ◌<ℤ◌, List, [], ◌∷◌, map, length, get_or, refl, sym, ap, subst, ◌∙◌, ext_get_or, arith}
+use Rattle.std.proofs.Common.{◌≡◌, ◌≢◌, ◌↔◌, ℕ, zero, suc, ◌+◌, ◌-◌, ◌<◌, ◌≤◌, ℤ, pos, ◌+ℤ◌, ◌-ℤ◌, ◌*ℤ◌, ◌≤ℤ◌, ◌<ℤ◌, List, [], ◌∷◌, map, length, get_or, refl, sym, ap, subst, ◌∙◌, ext_get_or, arith}
+use Rattle.std.proofs.lemmas.Int.{by_lt_z}
 use Rattle.std.proofs.lemmas.List.{length-map}
+use Rattle.integers.proofs.Laws.{lin}
 use Rattle.integers.specs.Fraction.{over, SameFractions}
 use Rattle.integers.specs.Vector.{scale}
-use Rattle.integers.proofs.Order.{mul_pos, cancel_eq, cancel_le, pos_of_mul, le_of_lt}
+use Rattle.integers.proofs.Order.{mul_pos, cancel_eq, cancel_le, pos_of_mul, le_of_lt, le_antisymm}
 use Rattle.integers.proofs.Ring.{con, neg, ◌⊕◌, ◌⊖◌, ◌⊗◌, ◌≗◌, ◌≼◌, ◌✶◌, ◌⇐◌, combine7, combine8, combine9}
 use Rattle.integers.proofs.Fractions.{SameFractions-over}
 use Rattle.integers.proofs.VectorLaws.{length-scale, get_or-scale}
 use Rattle.judgement_matrix.specs.Matrix.{IsPair}
 use Rattle.judgement_matrix.specs.Scale.{value_at}
 use Rattle.value_scale.specs.Anchor.{IsAnchoredScale, AreReferences}
+use Rattle.value_scale.proofs.AnchorLemmas.{stretched, anchored_from}
 
 -- as many values
 pub anchored_each : (w : List ℤ) (n : ℤ) (good neutral : ℕ) (v : List ℤ) (k : ℤ) → IsAnchoredScale w n good neutral v k → length v ≡ length w
@@ -106,3 +109,23 @@ anchored_one w n good neutral v x k l pn refs h g = (SameFractions-over v x k l)
         cancel_eq (l *ℤ get_or v i (pos 0)) (k *ℤ get_or x i (pos 0)) d (apart w n good neutral v k pn refs h)
         (combine7 (λ a b y z k l d. l ⊗ y ⊗ d ≗ k ⊗ z ⊗ d ⇐ l ✶ (y ⊗ d ≗ con (pos 100) ⊗ k ⊗ (a ⊖ b)) ∷ neg k ✶ (z ⊗ d ≗ con (pos 100) ⊗ l ⊗ (a ⊖ b)) ∷ []) refl
         (get_or w i (pos 0)) (value_at w neutral) (get_or v i (pos 0)) (get_or x i (pos 0)) k l d in_v in_x)
+
+-- there is one exactly where the references have two values
+pub anchored_exists : (w : List ℤ) (n : ℤ) (good neutral : ℕ) → pos 0 <ℤ n → AreReferences (length w) good neutral → value_at w neutral ≤ℤ value_at w good
+    → ((v : List ℤ) × (k : ℤ) × IsAnchoredScale w n good neutral v k) ↔ (value_at w good ≢ value_at w neutral)
+anchored_exists w n good neutral pn refs below = (there, back)
+  where
+    t : ℤ
+    t = value_at w good
+
+    z : ℤ
+    z = value_at w neutral
+
+    there : ((v : List ℤ) × (k : ℤ) × IsAnchoredScale w n good neutral v k) → t ≢ z
+    there some is = let above = apart w n good neutral some.0 some.1 pn refs some.2 in absurd (omega (arith, lin, above, is))
+
+    back : t ≢ z → ((v : List ℤ) × (k : ℤ) × IsAnchoredScale w n good neutral v k)
+    back differ =
+        let over_z : z <ℤ t = by_lt_z z t (λ h. h) (λ h. absurd (differ (le_antisymm t z h below))) in
+        let above : pos 0 <ℤ (t -ℤ z) = omega (arith, lin, over_z) in
+        (stretched z w, t -ℤ z, anchored_from w (stretched z w) n (t -ℤ z) good neutral refs pn above above refl)

@@ -3,9 +3,9 @@ use Rattle.std.specs.Result.{IfOk}
 use Rattle.std.specs.Int.Signed.{lt_z_yes}
 use mathlib.Core.List.{cons≢nil, head-eq_of_cons-eq, tail-eq_of_cons-eq}
 use Rattle.std.proofs.lemmas.Int.{by_lt_z}
-use Rattle.std.proofs.Common.{◌≡◌, ◌≢◌, ℕ, zero, suc, ◌-◌, ◌<◌, ℤ, pos, ◌+ℤ◌, ◌-ℤ◌, ◌*ℤ◌, neg_ℤ, ◌<ℤ◌, List, [], ◌∷◌, map, length, get_or, refl, sym, ap, ap₂, subst, ◌∙◌, Result, Ok, Err, arith}
+use Rattle.std.proofs.Common.{◌≡◌, ◌≢◌, ℕ, zero, suc, ◌-◌, ◌<◌, ℤ, pos, ◌+ℤ◌, ◌-ℤ◌, ◌*ℤ◌, neg_ℤ, ◌<ℤ◌, List, [], ◌∷◌, map, All, length, get_or, refl, sym, ap, ap₂, ◌∙◌, Result, Ok, Err, arith}
 use Rattle.std.proofs.lemmas.List.Elements.{All-nil, All-cons, All-head, All-tail, All-get_or}
-use Rattle.std.proofs.lemmas.Result.{IfOk-weaker}
+use Rattle.std.proofs.lemmas.Result.{IfOk-weaker, IfOk-at_ok}
 use Rattle.integers.specs.Fraction.{Fraction, IsFraction, AreFractions, SameFraction, FractionAtMost, IsWriting, fraction_of, fraction_difference, fraction_product, fraction_quotient}
 use Rattle.integers.specs.Vector.{scale}
 use Rattle.integers.proofs.Laws.{lin}
@@ -13,14 +13,15 @@ use Rattle.integers.proofs.Order.{mul_pos, cancel_eq, cancel_lt, zero_of_mul, le
 use Rattle.integers.proofs.Ring.{con, neg, ◌⊕◌, ◌⊖◌, ◌⊗◌, ◌≗◌, ◌≺◌, ◌✶◌, ◌⇐◌, ring2, combine2, combine4, combine6, combine7, combine9}
 use Rattle.integers.proofs.FractionSums.{IsFraction-whole}
 use Rattle.integers.proofs.Writings.{IsWriting-at, IsWriting-cross, IsWriting-length}
-use Rattle.frac128.specs.Checked.{◌>>=◌, Gives, checked_difference, checked_product, checked_quotient}
+use Rattle.frac128.specs.Checked.{◌>>=◌, checked_difference, checked_product, checked_quotient}
+use Rattle.frac128.specs.Frac.{IsReduced}
 use Rattle.frac128.specs.declared.number.TooWide.{TooWide}
 use Rattle.frac128.proofs.FormulaLemmas.{IfOk-bind, IsValued, checked_difference-value, checked_product-value, checked_quotient-value}
-use Rattle.value_scale.proofs.EachLemmas.{each_length}
+use Rattle.value_scale.proofs.EachLemmas.{each_length, each_ok}
+use Rattle.value_scale.proofs.ReducedLemmas.{checked_product-reduced, reduced_are_fractions}
 use Rattle.judgement_matrix.specs.Scale.{value_at}
 use Rattle.judgement_matrix.specs.Values.{fraction_at}
-use Rattle.value_scale.specs.declared.anchored_scale.AnchorFault.{AnchorFault}
-use Rattle.value_scale.specs.Anchor.{IsAnchoredScale, AreAnchored, NeverRise, AreReferences, IsFlat, checked_factor, checked_point, checked_line, checked_anchor, FaultSays}
+use Rattle.value_scale.specs.Anchor.{IsAnchoredScale, AreAnchored, NeverRise, AreReferences, IsFlat, checked_factor, checked_point, checked_line, checked_anchor}
 
 -- ---- one step each, over one denominator n
 
@@ -88,7 +89,7 @@ point_value origin factor f x z n s pn pz hf pf is_x is_z =
     (checked_product-value above factor ha.0 hf.0))
 
 -- the numbers of an anchored scale, over s
-abbrev stretched : ℤ → List ℤ → List ℤ
+abbrev pub stretched : ℤ → List ℤ → List ℤ
 stretched z w = map (λ x. pos 100 *ℤ (x -ℤ z)) w
 
 -- the fractions are these over s
@@ -130,7 +131,7 @@ at_place z s k (x ∷ w) [] i l e = absurd (cons≢nil e)
 at_place z s k (x ∷ w) (y ∷ v) zero l e = head-eq_of_cons-eq e
 at_place z s k (x ∷ w) (y ∷ v) (suc i) l e = at_place z s k w v i (omega arith) (tail-eq_of_cons-eq e)
 
-anchored_from : (w v : List ℤ) (n k : ℤ) (good neutral : ℕ) → AreReferences (length w) good neutral → pos 0 <ℤ n → pos 0 <ℤ k
+pub anchored_from : (w v : List ℤ) (n k : ℤ) (good neutral : ℕ) → AreReferences (length w) good neutral → pos 0 <ℤ n → pos 0 <ℤ k
     → pos 0 <ℤ (value_at w good -ℤ value_at w neutral)
     → scale k (stretched (value_at w neutral) w) ≡ scale (value_at w good -ℤ value_at w neutral) v → IsAnchoredScale w n good neutral v k
 anchored_from w v n k good neutral refs pn pk ps e = record {
@@ -207,8 +208,54 @@ anchored_length fs good neutral = with_factor (checked_factor (fraction_at fs go
     with_factor (Ok factor) = each_length (checked_point (fraction_at fs neutral) factor) fs
     with_factor (Err e) = tt
 
--- what holds of what a formula gives holds of the answer
-pub answered : {V : Type 0} (items : V → List Fraction) (worked : Result (List Fraction) TooWide) (result : Result V AnchorFault) (P : List Fraction → Type 0)
-    → IfOk worked P → Gives FaultSays items worked result → IfOk result (λ v. P (items v))
-answered items worked (Ok v) P h g = subst (λ r. IfOk r P) g h
-answered items worked (Err fault) P h g = tt
+-- they are in lowest terms
+pub anchored_reduced : (fs : List Fraction) (good neutral : ℕ) → AreFractions fs → AreReferences (length fs) good neutral → ¬ IsFlat fs good neutral
+    → IfOk (checked_anchor fs good neutral) (All IsReduced)
+anchored_reduced fs good neutral pf refs apart =
+    IfOk-bind (checked_factor top origin) (λ factor. checked_line origin factor fs) IsFraction (All IsReduced) factor_is (λ factor p_factor.
+    each_ok (checked_point origin factor) IsFraction IsReduced (point_is factor p_factor) fs pf)
+  where
+    top : Fraction
+    top = fraction_at fs good
+
+    origin : Fraction
+    origin = fraction_at fs neutral
+
+    p_top : IsFraction top
+    p_top = All-get_or IsFraction fs (good - 1) (fraction_of (pos 0)) (omega arith) pf
+
+    p_zero : IsFraction origin
+    p_zero = All-get_or IsFraction fs (neutral - 1) (fraction_of (pos 0)) (omega arith) pf
+
+    factor_is : IfOk (checked_factor top origin) IsFraction
+    factor_is =
+        let hundred = fraction_of (pos 100) in
+        IfOk-bind (checked_difference top origin) (λ span. checked_quotient hundred span) (IsValued (fraction_difference top origin)) IsFraction
+        (checked_difference-value top origin p_top p_zero) (λ span hs.
+        IfOk-weaker (checked_quotient hundred span) (IsValued (fraction_quotient hundred span)) IsFraction (λ r hr. hr.0)
+        (checked_quotient-value hundred span (IsFraction-whole (pos 100)) (span_not_zero top origin span hs.0 hs.1 apart)))
+
+    point_is : (factor : Fraction) → IsFraction factor → (f : Fraction) → IsFraction f → IfOk (checked_point origin factor f) IsReduced
+    point_is factor p_factor f p_f =
+        IfOk-bind (checked_difference f origin) (λ above. checked_product above factor) (IsValued (fraction_difference f origin)) IsReduced
+        (checked_difference-value f origin p_f p_zero) (λ above ha. checked_product-reduced above factor ha.0 p_factor)
+
+-- ---- what the formula gives
+
+pub checked_anchor-means : (fs : List Fraction) (good neutral : ℕ) (anchored : List Fraction) → AreFractions fs → AreReferences (length fs) good neutral
+    → NeverRise fs → ¬ IsFlat fs good neutral → checked_anchor fs good neutral ≡ Ok anchored → AreAnchored fs good neutral anchored
+checked_anchor-means fs good neutral anchored pf refs falls apart is =
+    IfOk-at_ok (AreAnchored fs good neutral) is (anchored_is fs good neutral pf refs falls apart)
+
+pub checked_anchor-length : (fs : List Fraction) (good neutral : ℕ) (anchored : List Fraction) → checked_anchor fs good neutral ≡ Ok anchored
+    → length anchored ≡ length fs
+checked_anchor-length fs good neutral anchored is = IfOk-at_ok (λ vs. length vs ≡ length fs) is (anchored_length fs good neutral)
+
+pub checked_anchor-reduced : (fs : List Fraction) (good neutral : ℕ) (anchored : List Fraction) → AreFractions fs → AreReferences (length fs) good neutral
+    → ¬ IsFlat fs good neutral → checked_anchor fs good neutral ≡ Ok anchored → All IsReduced anchored
+checked_anchor-reduced fs good neutral anchored pf refs apart is = IfOk-at_ok (All IsReduced) is (anchored_reduced fs good neutral pf refs apart)
+
+pub checked_anchor-fractions : (fs : List Fraction) (good neutral : ℕ) (anchored : List Fraction) → AreFractions fs → AreReferences (length fs) good neutral
+    → ¬ IsFlat fs good neutral → checked_anchor fs good neutral ≡ Ok anchored → AreFractions anchored
+checked_anchor-fractions fs good neutral anchored pf refs apart is =
+    reduced_are_fractions anchored (checked_anchor-reduced fs good neutral anchored pf refs apart is)

@@ -3,16 +3,15 @@ use Rattle.std.specs.Result.{IfOk}
 use Rattle.std.proofs.Common.{◌≡◌, inl, inr, ℕ, ◌-◌, ◌≤◌, ℤ, pos, ◌<ℤ◌, List, [], ◌∷◌, take, reverse, All, Result, Ok, Err, refl, sym, subst, ◌∙◌}
 use Rattle.std.proofs.lemmas.List.{reverse-append}
 use Rattle.std.proofs.lemmas.List.Elements.{All-nil, All-cons, All-head, All-tail, All-append, All-take, All-weaker}
-use Rattle.integers.specs.Fraction.{Fraction, IsFraction, AreFractions, SameFractions, over, fraction_of, fraction_sum}
+use Rattle.integers.specs.Fraction.{Fraction, IsFraction, AreFractions, SameFractions, over, fraction_of}
 use Rattle.integers.proofs.Divisibility.{IsLowest-whole}
 use Rattle.integers.proofs.FractionSums.{IsFraction-whole}
-use Rattle.frac128.specs.Checked.{◌>>=◌, IsExact, SumFits, checked_sum}
+use Rattle.frac128.specs.Checked.{◌>>=◌, checked_sum}
 use Rattle.frac128.specs.Entries.{entries_from}
 use Rattle.frac128.specs.Frac.{IsReduced}
 use Rattle.frac128.specs.Problem.{IsProblem, IsInfeasible, IsLeast, IsSpanCertificate}
 use Rattle.frac128.specs.declared.number.TooWide.{TooWide as Wide}
 use Rattle.frac128.specs.declared.problem.Cert.{Cert}
-use Rattle.frac128.proofs.Checked.{checked_sum-exact}
 use Rattle.frac128.proofs.FormulaLemmas.{IfOk-bind}
 use Rattle.judgement_matrix.specs.Matrix.{Judgements, IsMatrix}
 use Rattle.judgement_matrix.specs.Scale.{IsMetBy, IsInconsistent}
@@ -41,22 +40,16 @@ use Rattle.value_scale.specs.declared.basic.Basic.TheVariants.{Scale, Inconsiste
 use Rattle.value_scale.specs.declared.fault.ScaleFault.{ScaleFault}
 use Rattle.value_scale.specs.declared.fault.ScaleFault.TheVariants as fault
 use Rattle.value_scale.proofs.BasicLemmas.{scale_with_proof}
+use Rattle.value_scale.proofs.ReducedLemmas.{checked_sum-reduced}
 
 -- ---- gap sums are in lowest terms
-
-sum_reduced : (f g : Fraction) → IsFraction f → IsFraction g → IfOk (checked_sum f g) IsReduced
-sum_reduced f g p q = step (checked_sum f g) (checked_sum-exact f g p q)
-  where
-    step : (r : Result Fraction Wide) → IsExact r (SumFits f g) (fraction_sum f g) → IfOk r IsReduced
-    step (Ok h) is = is.1
-    step (Err e) is = tt
 
 heights_reduced : (a : Fraction) (gaps : List Fraction) → IsFraction a → AreFractions gaps → IfOk (checked_heights a gaps) (All IsReduced)
 unfolding checked_heights
 heights_reduced a [] p h = All-nil IsReduced
 heights_reduced a (gap ∷ gaps) p h =
     IfOk-bind (checked_sum a gap) (λ height. (checked_heights height gaps) >>= (λ above. Ok (height ∷ above))) IsReduced (All IsReduced)
-    (sum_reduced a gap p (All-head IsFraction gap gaps h)) (λ height low.
+    (checked_sum-reduced a gap p (All-head IsFraction gap gaps h)) (λ height low.
     IfOk-bind (checked_heights height gaps) (λ above. Ok (height ∷ above)) (All IsReduced) (All IsReduced)
     (heights_reduced height gaps low.0 (All-tail IsFraction gap gaps h)) (λ above rest. All-cons IsReduced height above low rest))
 

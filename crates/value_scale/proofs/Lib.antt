@@ -6,10 +6,12 @@ pub mod ChainLemmas
 pub mod DecidedLemmas
 pub mod EachLemmas
 pub mod GapLemmas
+pub mod GivesLemmas
 pub mod IntervalLemmas
 pub mod MetLemmas
 pub mod NarrowingLemmas
 pub mod OneAnswerLemmas
+pub mod ReducedLemmas
 pub mod SameLemmas
 pub mod SideLemmas
 pub mod SlackLemmas

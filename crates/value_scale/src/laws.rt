@@ -1,10 +1,11 @@
 //! Laws of the definitions, as contracts of functions that do nothing.
 
-ghost use Rattle.std.specs.Prelude.{◌≡◌, ◌≤◌, None, Ok, ℕ, List, ℤ, pos, length, ◌<ℤ◌, ◌≤ℤ◌, ◌↔◌, IsTrue, Result as Answer};
+ghost use Rattle.std.specs.Prelude.{◌≡◌, ◌≢◌, ◌≤◌, All, None, Ok, ℕ, List, ℤ, pos, length, ◌<ℤ◌, ◌≤ℤ◌, ◌↔◌, IsTrue, Result as Answer};
 ghost use Rattle.integers.specs.Fraction.{Fraction, IsFraction, AreFractions, over, SameFractions};
+ghost use Rattle.frac128.specs.Frac.{IsReduced};
 ghost use Rattle.judgement_matrix.specs.Matrix.{IsPair, Judgements};
 ghost use Rattle.judgement_matrix.specs.Scale.{value_at, IsMetBy};
-ghost use Rattle.value_scale.specs.Anchor.{IsAnchoredScale, AreReferences, NeverRise};
+ghost use Rattle.value_scale.specs.Anchor.{IsAnchoredScale, AreAnchored, AreReferences, NeverRise, IsFlat, checked_anchor};
 ghost use Rattle.judgement_matrix.specs.Values.{AreValues};
 ghost use Rattle.value_scale.specs.Basic.{AreLeastValues, IsFound, IsAnswered, TellTheSame};
 ghost use Rattle.value_scale.specs.Narrowing.{checked_slack};
@@ -31,6 +32,26 @@ pub fn anchored_values_fall()
     ensures fall { (w : List ℤ) (n : ℤ) (good neutral : ℕ) (v : List ℤ) (k : ℤ) (p q : ℕ)
         → pos 0 <ℤ n → IsAnchoredScale w n good neutral v k → IsPair (length w) p q
         → value_at w q ≤ℤ value_at w p → value_at v q ≤ℤ value_at v p }
+{}
+
+/// States that a scale has an anchored scale exactly where its references have two values, if good isn't below neutral. It does
+/// nothing.
+pub fn references_apart_can_be_anchored()
+    ensures { (w : List ℤ) (n : ℤ) (good neutral : ℕ) → pos 0 <ℤ n
+        → AreReferences (length w) good neutral → value_at w neutral ≤ℤ value_at w good
+        → ((v : List ℤ) × (k : ℤ) × IsAnchoredScale w n good neutral v k)
+        ↔ (value_at w good ≢ value_at w neutral) }
+{}
+
+/// States that the values that the formula gives are those of the anchored scale, in lowest terms, and as many as there were. It
+/// does nothing.
+pub fn worked_anchors_are_anchored()
+    ensures anchored { (values anchored : List Fraction) (good neutral : ℕ) → AreFractions values
+        → AreReferences (length values) good neutral → NeverRise values
+        → ¬ IsFlat values good neutral → checked_anchor values good neutral ≡ Ok anchored
+        → AreAnchored values good neutral anchored × All IsReduced anchored }
+    ensures each { (values anchored : List Fraction) (good neutral : ℕ)
+        → checked_anchor values good neutral ≡ Ok anchored → length anchored ≡ length values }
 {}
 
 /// States that the values of a scale that meets a matrix never rise. It only reads them, since what a type keeps is told where
