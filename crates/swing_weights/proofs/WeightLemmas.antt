@@ -1,9 +1,9 @@
 -- What the formula of weights gives: each swing over the sum of the swings, which is above 0.
 use Rattle.std.specs.Result.{IfOk}
 use Rattle.std.proofs.Common.{◌≡◌, ◌≢◌, ℕ, zero, suc, ◌+◌, ◌-◌, ◌≤◌, ◌<◌, ℤ, pos, ◌+ℤ◌, ◌*ℤ◌, ◌<ℤ◌, ◌≤ℤ◌, ◌⊎◌, inl, inr, List, [], ◌∷◌, All, take, length, get_or, refl, ap, subst, sym, ◌∙◌, Result, Ok, Err, arith}
-use Rattle.std.proofs.lemmas.List.Elements.{All-head, All-tail, All-take}
-use Rattle.std.proofs.lemmas.Result.{IfOk-weaker}
-use Rattle.std.proofs.lemmas.List.{get_or_default}
+use Rattle.std.proofs.lemmas.List.Elements.{All-nil, All-cons, All-head, All-tail, All-take}
+use Rattle.std.proofs.lemmas.Result.{IfOk-weaker, IfOk-at_ok}
+use Rattle.std.proofs.lemmas.List.{get_or_default, length-take-le}
 use lib.IntN.{zero-*ℤ}
 use Rattle.std.specs.Int.Signed.{le_z_yes}
 use Rattle.integers.specs.Fraction.{Fraction, IsFraction, AreFractions, SameFraction, IsWriting, fraction_of, fraction_sum, fraction_quotient}
@@ -15,12 +15,14 @@ use Rattle.integers.proofs.Order.{mul_pos, mul_nonneg, le_of_lt, le_antisymm, lt
 use Rattle.integers.proofs.Ring.{neg, ◌⊕◌, ◌⊗◌, ◌≗◌, ◌✶◌, ◌⇐◌, ring3, combine11}
 use Rattle.integers.proofs.Writings.{IsWriting-length}
 use Rattle.frac128.specs.Checked.{◌>>=◌, Gives, checked_sum, checked_quotient}
+use Rattle.frac128.specs.Frac.{IsReduced}
 use Rattle.frac128.proofs.FormulaLemmas.{IfOk-bind, IsValued, checked_sum-value, checked_quotient-value}
 use Rattle.judgement_matrix.specs.Values.{fraction_at}
 use Rattle.swing_weights.specs.Weights.{checked_total_from, checked_shares, checked_weights, swings, AreFalling, AreAllZero, AreShares, AreWeights, TotalIsNotZero, FaultSays, AnswersValues}
 use Rattle.swing_weights.specs.declared.weighing.WeightFault.{WeightFault}
 use Rattle.swing_weights.specs.declared.weighing.WeightFault.TheVariants as fault
 use Rattle.value_scale.proofs.BasicLemmas.{IsWriting-take}
+use Rattle.value_scale.proofs.ReducedLemmas.{checked_quotient-reduced, reduced_are_fractions}
 use Rattle.swing_weights.proofs.ScoreLemmas.{no_more, chained, from_zero}
 
 -- ---- a share
@@ -150,6 +152,10 @@ all_zero values d pf h first k e below =
 
 -- ---- facts of a result
 
+any : {A E : Type 0} (r : Result A E) → IfOk r (λ x. Unit {0})
+any (Ok x) = tt
+any (Err e) = tt
+
 both_ok : {A E : Type 0} (r : Result A E) (P Q : A → Type 0) → IfOk r P → IfOk r Q → IfOk r (λ x. P x × Q x)
 both_ok (Ok x) P Q p q = (p, q)
 both_ok (Err e) P Q p q = tt
@@ -218,7 +224,7 @@ total_is values pf =
     (total_value zero (swings values) (swings w) n (IsFraction-whole (pos 0)) fits (swings_written values w n h)))
 
 -- weights of the values
-pub weights_are : (values : List Fraction) (d : Fraction) → AreFractions values → AreFalling values → (get_or values 0 d).num ≢ pos 0 → IfOk (checked_weights values) (AreWeights values)
+weights_are : (values : List Fraction) (d : Fraction) → AreFractions values → AreFalling values → (get_or values 0 d).num ≢ pos 0 → IfOk (checked_weights values) (AreWeights values)
 unfolding checked_weights
 weights_are values d pf h other =
     let sw = swings values in
@@ -236,11 +242,66 @@ weights_are values d pf h other =
 not_all_zero : (values : List Fraction) (d : Fraction) → AreFalling values → (get_or values 0 d).num ≢ pos 0 → ¬ AreAllZero values
 not_all_zero values d h other all = other (all 0 d (omega (arith, h.some)))
 
+first_not_zero : (values : List Fraction) (d : Fraction) → AreFractions values → AreFalling values → ¬ AreAllZero values → (get_or values 0 d).num ≢ pos 0
+first_not_zero values d pf h other is = other (all_zero values d pf h is)
+
+-- ---- the formula
+
+shares_length : (total : Fraction) (fs : List Fraction) → IfOk (checked_shares total fs) (λ weights. length weights ≡ length fs)
+unfolding checked_shares
+shares_length total [] = refl
+shares_length total (f ∷ fs) =
+    IfOk-bind (checked_quotient f total) (λ share. (checked_shares total fs) >>= (λ others. Ok (share ∷ others))) (λ share. Unit {0})
+    (λ weights. length weights ≡ suc (length fs)) (any (checked_quotient f total)) (λ share u.
+    IfOk-bind (checked_shares total fs) (λ others. Ok (share ∷ others)) (λ others. length others ≡ length fs) (λ weights. length weights ≡ suc (length fs))
+    (shares_length total fs) (λ others h. ap suc h))
+
+shares_reduced : (total : Fraction) (fs : List Fraction) → AreFractions fs → total.num ≢ pos 0 → IfOk (checked_shares total fs) (All IsReduced)
+unfolding checked_shares
+shares_reduced total [] pf nt = All-nil IsReduced
+shares_reduced total (f ∷ fs) pf nt =
+    IfOk-bind (checked_quotient f total) (λ share. (checked_shares total fs) >>= (λ others. Ok (share ∷ others))) IsReduced (All IsReduced)
+    (checked_quotient-reduced f total (All-head IsFraction f fs pf) nt) (λ share hs.
+    IfOk-bind (checked_shares total fs) (λ others. Ok (share ∷ others)) (All IsReduced) (All IsReduced)
+    (shares_reduced total fs (All-tail IsFraction f fs pf) nt) (λ others ho. All-cons IsReduced share others hs ho))
+
+pub checked_weights-means : (values weights : List Fraction) → AreFractions values → AreFalling values → ¬ AreAllZero values
+    → checked_weights values ≡ Ok weights → AreWeights values weights
+checked_weights-means values weights pf h other is =
+    let nought = fraction_of (pos 0) in
+    IfOk-at_ok (AreWeights values) is (weights_are values nought pf h (first_not_zero values nought pf h other))
+
+-- there is a weight for each swing
+pub checked_weights-length : (values weights : List Fraction) → checked_weights values ≡ Ok weights → length weights ≡ length values - 1
+unfolding checked_weights
+checked_weights-length values weights is =
+    let sw = swings values in
+    let each = IfOk-at_ok (λ (ws : List Fraction). length ws ≡ length sw) is
+    (IfOk-bind (checked_total_from (fraction_of (pos 0)) sw) (λ total. checked_shares total sw) (λ total. Unit {0}) (λ ws. length ws ≡ length sw)
+    (any (checked_total_from (fraction_of (pos 0)) sw)) (λ total u. shares_length total sw)) in
+    each ∙ length-take-le (length values - 1) values (omega arith)
+
+pub checked_weights-reduced : (values weights : List Fraction) → AreFractions values → AreFalling values → ¬ AreAllZero values
+    → checked_weights values ≡ Ok weights → All IsReduced weights
+unfolding checked_weights
+checked_weights-reduced values weights pf h other is =
+    let nought = fraction_of (pos 0) in
+    let sw = swings values in
+    IfOk-at_ok (All IsReduced) is
+    (IfOk-bind (checked_total_from nought sw) (λ total. checked_shares total sw) (λ total. total.num ≢ pos 0) (All IsReduced)
+    (total_is_not_zero values nought pf h (first_not_zero values nought pf h other))
+    (λ total nt. shares_reduced total sw (All-take IsFraction (length values - 1) values pf) nt))
+
+pub checked_weights-fractions : (values weights : List Fraction) → AreFractions values → AreFalling values → ¬ AreAllZero values
+    → checked_weights values ≡ Ok weights → AreFractions weights
+checked_weights-fractions values weights pf h other is = reduced_are_fractions weights (checked_weights-reduced values weights pf h other is)
+
 -- what is answered for the values, from what the formula gives
 pub answered : {V : Type 0} → (items : V → List Fraction) (values : List Fraction) (d : Fraction) (answer : Result V WeightFault) → AreFractions values → AreFalling values → (get_or values 0 d).num ≢ pos 0
     → Gives FaultSays items (checked_weights values) answer → AnswersValues items values answer
 answered items values d (Ok given) pf h other gives =
-    (not_all_zero values d h other, gives, subst (λ r. IfOk r (AreWeights values)) gives (weights_are values d pf h other))
+    let some = not_all_zero values d h other in
+    (some, gives, checked_weights-means values (items given) pf h some gives)
 answered items values d (Err fault.TooWide) pf h other gives = (not_all_zero values d h other, gives)
 answered items values d (Err fault.NoMemory) pf h other gives = not_all_zero values d h other
 answered items values d (Err fault.Inconsistent) pf h other gives = gives

@@ -1,8 +1,10 @@
 //! Laws of weights, as contracts of functions that do nothing.
 
-ghost use Rattle.std.specs.Prelude.{◌≡◌, ◌≤◌, List, ℤ, pos, ◌<ℤ◌};
+ghost use Rattle.std.specs.Prelude.{◌≡◌, ◌≤◌, ◌-◌, All, List, length, ℤ, pos, ◌<ℤ◌, Ok};
+ghost use Rattle.frac128.specs.Frac.{IsReduced};
+ghost use Rattle.integers.specs.Fraction.{Fraction, AreFractions};
 ghost use Rattle.integers.specs.Vector.{int_sum, AreNonNegative};
-ghost use Rattle.swing_weights.specs.Weights.{swings, AreShares, AreSwingValues};
+ghost use Rattle.swing_weights.specs.Weights.{swings, AreShares, AreWeights, AreFalling, AreAllZero, AreSwingValues, checked_weights};
 ghost use Rattle.value_scale.specs.Basic.{IsBasic};
 
 use judgement_matrix::Matrix;
@@ -28,3 +30,12 @@ pub fn basic_scales_have_swings(matrix: &Matrix, basic: &Basic)
         Basic::Inconsistent { .. } => {}
     }
 }
+
+/// States that what the formula gives are the weights, in lowest terms, one for each value but the last. It does nothing.
+pub fn worked_weights_are_weights()
+    ensures weights { (values weights : List Fraction) → AreFractions values → AreFalling values
+        → ¬ AreAllZero values → checked_weights values ≡ Ok weights
+        → AreWeights values weights × All IsReduced weights }
+    ensures each { (values weights : List Fraction) → checked_weights values ≡ Ok weights
+        → length weights ≡ length values - 1 }
+{}
