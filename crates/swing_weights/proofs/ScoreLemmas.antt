@@ -3,17 +3,20 @@ use Rattle.std.specs.Result.{IfOk}
 use Rattle.std.proofs.Common.{◌≡◌, ℕ, ◌+◌, ◌<◌, ℤ, pos, ◌+ℤ◌, ◌*ℤ◌, List, [], ◌∷◌, length, drop, get_or, refl, Result, Ok, Err}
 use Rattle.std.proofs.lemmas.List.{drop_more}
 use Rattle.std.proofs.lemmas.List.Elements.{All-head, All-tail}
-use Rattle.std.proofs.lemmas.Result.{IfOk-weaker}
+use Rattle.std.proofs.lemmas.Result.{IfOk-weaker, IfOk-at_ok}
 use Rattle.integers.specs.Fraction.{Fraction, IsFraction, AreFractions, SameFraction, IsWriting, fraction_of, fraction_sum, fraction_product}
 use Rattle.integers.specs.Vector.{dot}
+use Rattle.integers.proofs.Divisibility.{IsLowest-whole}
 use Rattle.integers.proofs.Fractions.{SameFraction-sym, SameFraction-trans}
 use Rattle.integers.proofs.FractionSums.{fraction_sum-same, fraction_product-same, fraction_sum_assoc, IsFraction-sum, IsFraction-product, IsFraction-whole}
 use Rattle.integers.proofs.Fractions.{SameFraction-refl}
 use Rattle.integers.proofs.Order.{mul_pos}
 use Rattle.integers.proofs.Ring.{con, ◌⊕◌, ◌⊗◌, ◌≗◌, ◌✶◌, ◌⇐◌, ring3, ring5, combine4}
 use Rattle.frac128.specs.Checked.{◌>>=◌, checked_sum, checked_product}
+use Rattle.frac128.specs.Frac.{IsReduced}
 use Rattle.frac128.specs.declared.number.TooWide.{TooWide}
 use Rattle.frac128.proofs.FormulaLemmas.{IfOk-bind, IsValued, checked_sum-value, checked_product-value}
+use Rattle.value_scale.proofs.ReducedLemmas.{checked_sum-reduced, checked_product-reduced}
 use Rattle.swing_weights.specs.Score.{checked_score_from, checked_score, IsScore}
 
 -- the sum with the criterion at a place, and then the rest
@@ -93,3 +96,27 @@ for_each_writing ks vs (Err e) h = tt
 -- a score is the sum of the products, however the weights and values are written
 pub score_is : (ks vs : List Fraction) → AreFractions ks → AreFractions vs → IfOk (checked_score ks vs) (IsScore ks vs)
 score_is ks vs pk pv = for_each_writing ks vs (checked_score ks vs) (λ k d v n wk wv. score_value (fraction_of (pos 0)) ks vs k d v n (IsFraction-whole (pos 0)) pk pv wk wv)
+
+-- it is in lowest terms
+score_reduced : (s : Fraction) (ks vs : List Fraction) → IsReduced s → AreFractions ks → AreFractions vs → IfOk (checked_score_from s ks vs) IsReduced
+unfolding checked_score_from
+score_reduced s [] vs low pk pv = low
+score_reduced s (f ∷ ks) [] low pk pv = low
+score_reduced s (f ∷ ks) (g ∷ vs) low pk pv =
+    IfOk-bind (checked_product f g) (λ part. (checked_sum s part) >>= (λ sum. checked_score_from sum ks vs)) IsReduced IsReduced
+    (checked_product-reduced f g (All-head IsFraction f ks pk) (All-head IsFraction g vs pv)) (λ part hp.
+    IfOk-bind (checked_sum s part) (λ sum. checked_score_from sum ks vs) IsReduced IsReduced (checked_sum-reduced s part low.0 hp.0) (λ sum hs.
+    score_reduced sum ks vs hs (All-tail IsFraction f ks pk) (All-tail IsFraction g vs pv)))
+
+-- ---- what the formula gives
+
+pub checked_score-means : (ks vs : List Fraction) (score : Fraction) → AreFractions ks → AreFractions vs → checked_score ks vs ≡ Ok score → IsScore ks vs score
+checked_score-means ks vs score pk pv is = IfOk-at_ok (IsScore ks vs) is (score_is ks vs pk pv)
+
+pub checked_score-reduced : (ks vs : List Fraction) (score : Fraction) → AreFractions ks → AreFractions vs → checked_score ks vs ≡ Ok score → IsReduced score
+checked_score-reduced ks vs score pk pv is =
+    let nought = fraction_of (pos 0) in
+    IfOk-at_ok IsReduced is (score_reduced nought ks vs (IsFraction-whole (pos 0), IsLowest-whole (pos 0)) pk pv)
+
+pub checked_score-fraction : (ks vs : List Fraction) (score : Fraction) → AreFractions ks → AreFractions vs → checked_score ks vs ≡ Ok score → IsFraction score
+checked_score-fraction ks vs score pk pv is = (checked_score-reduced ks vs score pk pv is).0

@@ -4,6 +4,7 @@ ghost use Rattle.std.specs.Prelude.{◌≡◌, ◌≤◌, ◌-◌, All, List, le
 ghost use Rattle.frac128.specs.Frac.{IsReduced};
 ghost use Rattle.integers.specs.Fraction.{Fraction, AreFractions};
 ghost use Rattle.integers.specs.Vector.{int_sum, AreNonNegative};
+ghost use Rattle.swing_weights.specs.Score.{checked_score, IsScore};
 ghost use Rattle.swing_weights.specs.Weights.{swings, AreShares, AreWeights, AreFalling, AreAllZero, AreSwingValues, checked_weights};
 ghost use Rattle.value_scale.specs.Basic.{IsBasic};
 
@@ -38,4 +39,11 @@ pub fn worked_weights_are_weights()
         → AreWeights values weights × All IsReduced weights }
     ensures each { (values weights : List Fraction) → checked_weights values ≡ Ok weights
         → length weights ≡ length values - 1 }
+{}
+
+/// States that what the formula gives is the score, in lowest terms. It does nothing.
+pub fn worked_scores_are_scores()
+    ensures { (weights values : List Fraction) (score : Fraction) → AreFractions weights
+        → AreFractions values → checked_score weights values ≡ Ok score
+        → IsScore weights values score × IsReduced score }
 {}
