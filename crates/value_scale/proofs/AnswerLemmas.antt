@@ -1,18 +1,13 @@
 -- Each matrix has an answer: the run of its threshold problem ends, and its end gives one.
 use Rattle.std.specs.Result.{IfOk}
-use Rattle.std.proofs.Common.{◌≡◌, inl, inr, ℕ, ◌-◌, ◌≤◌, ℤ, pos, ◌<ℤ◌, List, [], ◌∷◌, take, reverse, All, Result, Ok, Err, refl, sym, subst, ◌∙◌}
-use Rattle.std.proofs.lemmas.List.{reverse-append}
-use Rattle.std.proofs.lemmas.List.Elements.{All-nil, All-cons, All-head, All-tail, All-append, All-take, All-weaker}
-use Rattle.integers.specs.Fraction.{Fraction, IsFraction, AreFractions, SameFractions, over, fraction_of}
-use Rattle.integers.proofs.Divisibility.{IsLowest-whole}
-use Rattle.integers.proofs.FractionSums.{IsFraction-whole}
-use Rattle.frac128.specs.Checked.{◌>>=◌, checked_sum}
+use Rattle.std.proofs.Common.{◌≡◌, inl, inr, ℕ, ◌-◌, ◌≤◌, ℤ, pos, ◌<ℤ◌, List, take, All, Result, Ok, Err, refl, sym, subst, ◌∙◌}
+use Rattle.std.proofs.lemmas.List.Elements.{All-take, All-weaker}
+use Rattle.integers.specs.Fraction.{Fraction, IsFraction, AreFractions, SameFractions, over}
 use Rattle.frac128.specs.Entries.{entries_from}
 use Rattle.frac128.specs.Frac.{IsReduced}
 use Rattle.frac128.specs.Problem.{IsProblem, IsInfeasible, IsLeast, IsSpanCertificate}
 use Rattle.frac128.specs.declared.number.TooWide.{TooWide as Wide}
 use Rattle.frac128.specs.declared.problem.Cert.{Cert}
-use Rattle.frac128.proofs.FormulaLemmas.{IfOk-bind}
 use Rattle.judgement_matrix.specs.Matrix.{Judgements, IsMatrix}
 use Rattle.judgement_matrix.specs.Scale.{IsMetBy, IsInconsistent}
 use Rattle.judgement_matrix.specs.Least.{IsSmaller, IsLeastScale}
@@ -34,44 +29,13 @@ use Rattle.lex_simplex.specs.declared.outcome.Outcome.TheVariants.{Least, Nothin
 use Rattle.lex_simplex.proofs.Ends.Existence.{run_has_outcome}
 use Rattle.lex_simplex.proofs.Runs.Ending.{problem_run_exists}
 use Rattle.value_scale.specs.Basic.{IsFound, IsAnswered, Certifies}
-use Rattle.value_scale.specs.GapSums.{checked_heights, checked_column, checked_values}
+use Rattle.value_scale.specs.GapSums.{checked_values}
 use Rattle.value_scale.specs.declared.basic.Basic.{Basic}
 use Rattle.value_scale.specs.declared.basic.Basic.TheVariants.{Scale, Inconsistent}
 use Rattle.value_scale.specs.declared.fault.ScaleFault.{ScaleFault}
 use Rattle.value_scale.specs.declared.fault.ScaleFault.TheVariants as fault
 use Rattle.value_scale.proofs.BasicLemmas.{scale_with_proof}
-use Rattle.value_scale.proofs.ReducedLemmas.{checked_sum-reduced}
-
--- ---- gap sums are in lowest terms
-
-heights_reduced : (a : Fraction) (gaps : List Fraction) → IsFraction a → AreFractions gaps → IfOk (checked_heights a gaps) (All IsReduced)
-unfolding checked_heights
-heights_reduced a [] p h = All-nil IsReduced
-heights_reduced a (gap ∷ gaps) p h =
-    IfOk-bind (checked_sum a gap) (λ height. (checked_heights height gaps) >>= (λ above. Ok (height ∷ above))) IsReduced (All IsReduced)
-    (checked_sum-reduced a gap p (All-head IsFraction gap gaps h)) (λ height low.
-    IfOk-bind (checked_heights height gaps) (λ above. Ok (height ∷ above)) (All IsReduced) (All IsReduced)
-    (heights_reduced height gaps low.0 (All-tail IsFraction gap gaps h)) (λ above rest. All-cons IsReduced height above low rest))
-
-reverse_reduced : (fs : List Fraction) → All IsReduced fs → All IsReduced (reverse fs)
-reverse_reduced [] h = h
-reverse_reduced (f ∷ fs) h =
-    rw (reverse-append (f ∷ []) fs) (All-append IsReduced (reverse fs) (f ∷ []) (reverse_reduced fs (All-tail IsReduced f fs h))
-    (All-cons IsReduced f [] (All-head IsReduced f fs h) (All-nil IsReduced)))
-
-column_reduced : (gaps : List Fraction) → AreFractions gaps → IfOk (checked_column gaps) (All IsReduced)
-unfolding checked_column
-column_reduced gaps h =
-    let zero : Fraction = fraction_of (pos 0) in
-    IfOk-bind (checked_heights zero gaps) (λ above. Ok (zero ∷ above)) (All IsReduced) (All IsReduced)
-    (heights_reduced zero gaps (IsFraction-whole (pos 0)) h)
-    (λ above rest. All-cons IsReduced zero above (IsFraction-whole (pos 0), IsLowest-whole (pos 0)) rest)
-
-pub values_reduced : (gaps : List Fraction) → AreFractions gaps → IfOk (checked_values gaps) (All IsReduced)
-unfolding checked_values
-values_reduced gaps h =
-    IfOk-bind (checked_column gaps) (λ column. Ok (reverse column)) (All IsReduced) (All IsReduced) (column_reduced gaps h)
-    (λ column low. reverse_reduced column low)
+use Rattle.value_scale.proofs.GapLemmas.{values_reduced}
 
 -- ---- answers
 

@@ -1,18 +1,24 @@
 -- The values that gap sums give are the scale that the gaps make.
 use Rattle.std.specs.Result.{IfOk}
-use Rattle.std.proofs.Common.{◌≡◌, ℤ, pos, ◌+ℤ◌, ◌*ℤ◌, ◌<ℤ◌, List, [], ◌∷◌, reverse, refl, ap, Ok}
+use Rattle.std.proofs.Common.{◌≡◌, ◌+◌, ℤ, pos, ◌+ℤ◌, ◌*ℤ◌, ◌<ℤ◌, List, [], ◌∷◌, All, length, reverse, refl, ap, Result, Ok, Err, arith}
 use Rattle.std.proofs.lemmas.List.Elements.{All-head, All-tail, All-cons, All-nil, All-append}
 use Rattle.std.proofs.lemmas.List.{reverse-append}
-use Rattle.integers.specs.Fraction.{Fraction, IsFraction, AreFractions, SameFraction, IsWriting, fraction_of, fraction_sum}
+use Rattle.std.proofs.lemmas.Result.{IfOk-weaker, IfOk-at_ok}
+use Rattle.integers.specs.Fraction.{Fraction, IsFraction, AreFractions, SameFraction, IsWriting, fraction_of, fraction_sum, common_den, common_nums}
 use Rattle.integers.specs.Vector.{running_sums}
+use Rattle.integers.proofs.Divisibility.{IsLowest-whole}
 use Rattle.integers.proofs.Fractions.{SameFraction-sym, SameFraction-trans}
 use Rattle.integers.proofs.FractionSums.{fraction_sum-same, IsFraction-sum, IsFraction-whole}
 use Rattle.integers.proofs.Ring.{con, ◌⊕◌, ◌⊗◌, ◌≗◌, ring1, ring3}
-use Rattle.integers.proofs.Writings.{IsWriting-append}
+use Rattle.integers.proofs.Writings.{IsWriting-append, IsWriting-length, IsWriting-same, common_writing}
 use Rattle.frac128.specs.Checked.{◌>>=◌, checked_sum}
+use Rattle.frac128.specs.Frac.{IsReduced}
+use Rattle.frac128.specs.declared.number.TooWide.{TooWide}
 use Rattle.frac128.proofs.FormulaLemmas.{IfOk-bind, IsValued, checked_sum-value}
 use Rattle.lp_macbeth.specs.Gaps.{heights, scale_of}
-use Rattle.value_scale.specs.GapSums.{checked_heights, checked_column, checked_values}
+use Rattle.lp_macbeth.proofs.GapLemmas.{length-scale_of}
+use Rattle.value_scale.specs.GapSums.{AreScaleOf, checked_heights, checked_column, checked_values}
+use Rattle.value_scale.proofs.ReducedLemmas.{checked_sum-reduced, reduced_are_fractions}
 
 -- fractions with positive denominators, and w over n is a writing of them
 abbrev pub IsWritten : List ℤ → ℤ → List Fraction → Type 0
@@ -81,3 +87,64 @@ unfolding checked_values
 values_written gaps x n pg w =
     IfOk-bind (checked_column gaps) (λ column. Ok (reverse column)) (IsWritten (heights (pos 0) x) n) (IsWritten (scale_of x) n) (column_written gaps x n pg w)
     (λ column h. reverse_written column (heights (pos 0) x) n h)
+
+-- ---- they are in lowest terms
+
+heights_reduced : (a : Fraction) (gaps : List Fraction) → IsFraction a → AreFractions gaps → IfOk (checked_heights a gaps) (All IsReduced)
+unfolding checked_heights
+heights_reduced a [] p h = All-nil IsReduced
+heights_reduced a (gap ∷ gaps) p h =
+    IfOk-bind (checked_sum a gap) (λ height. (checked_heights height gaps) >>= (λ above. Ok (height ∷ above))) IsReduced (All IsReduced)
+    (checked_sum-reduced a gap p (All-head IsFraction gap gaps h)) (λ height low.
+    IfOk-bind (checked_heights height gaps) (λ above. Ok (height ∷ above)) (All IsReduced) (All IsReduced)
+    (heights_reduced height gaps low.0 (All-tail IsFraction gap gaps h)) (λ above rest. All-cons IsReduced height above low rest))
+
+reverse_reduced : (fs : List Fraction) → All IsReduced fs → All IsReduced (reverse fs)
+reverse_reduced [] h = h
+reverse_reduced (f ∷ fs) h =
+    rw (reverse-append (f ∷ []) fs) (All-append IsReduced (reverse fs) (f ∷ []) (reverse_reduced fs (All-tail IsReduced f fs h))
+    (All-cons IsReduced f [] (All-head IsReduced f fs h) (All-nil IsReduced)))
+
+column_reduced : (gaps : List Fraction) → AreFractions gaps → IfOk (checked_column gaps) (All IsReduced)
+unfolding checked_column
+column_reduced gaps h =
+    let zero : Fraction = fraction_of (pos 0) in
+    IfOk-bind (checked_heights zero gaps) (λ above. Ok (zero ∷ above)) (All IsReduced) (All IsReduced)
+    (heights_reduced zero gaps (IsFraction-whole (pos 0)) h)
+    (λ above rest. All-cons IsReduced zero above (IsFraction-whole (pos 0), IsLowest-whole (pos 0)) rest)
+
+pub values_reduced : (gaps : List Fraction) → AreFractions gaps → IfOk (checked_values gaps) (All IsReduced)
+unfolding checked_values
+values_reduced gaps h =
+    IfOk-bind (checked_column gaps) (λ column. Ok (reverse column)) (All IsReduced) (All IsReduced) (column_reduced gaps h)
+    (λ column low. reverse_reduced column low)
+
+-- ---- what the formula gives
+
+values_scale : (gaps : List Fraction) → AreFractions gaps → IfOk (checked_values gaps) (AreScaleOf gaps)
+values_scale gaps pg = for_each (checked_values gaps) (λ x n written. values_written gaps x n pg written)
+  where
+    for_each : (r : Result (List Fraction) TooWide) → ((x : List ℤ) (n : ℤ) → IsWriting gaps x n → IfOk r (IsWritten (scale_of x) n)) → IfOk r (AreScaleOf gaps)
+    for_each (Ok values) h = λ x n w k hx hw. IsWriting-same values w k (scale_of x) n (h x n hx).0 hw (h x n hx).1
+    for_each (Err e) h = tt
+
+values_length : (gaps : List Fraction) → AreFractions gaps → IfOk (checked_values gaps) (λ values. length values ≡ length gaps + 1)
+values_length gaps pg =
+    let x = common_nums gaps in
+    let n = common_den gaps in
+    let writing = common_writing gaps pg in
+    IfOk-weaker (checked_values gaps) (IsWritten (scale_of x) n) (λ values. length values ≡ length gaps + 1)
+    (λ values h. omega (arith, IsWriting-length values (scale_of x) n h.1, length-scale_of x, IsWriting-length gaps x n writing))
+    (values_written gaps x n pg writing)
+
+pub checked_values-means : (gaps values : List Fraction) → AreFractions gaps → checked_values gaps ≡ Ok values → AreScaleOf gaps values
+checked_values-means gaps values pg is = IfOk-at_ok (AreScaleOf gaps) is (values_scale gaps pg)
+
+pub checked_values-length : (gaps values : List Fraction) → AreFractions gaps → checked_values gaps ≡ Ok values → length values ≡ length gaps + 1
+checked_values-length gaps values pg is = IfOk-at_ok (λ (vs : List Fraction). length vs ≡ length gaps + 1) is (values_length gaps pg)
+
+pub checked_values-reduced : (gaps values : List Fraction) → AreFractions gaps → checked_values gaps ≡ Ok values → All IsReduced values
+checked_values-reduced gaps values pg is = IfOk-at_ok (All IsReduced) is (values_reduced gaps pg)
+
+pub checked_values-fractions : (gaps values : List Fraction) → AreFractions gaps → checked_values gaps ≡ Ok values → AreFractions values
+checked_values-fractions gaps values pg is = reduced_are_fractions values (checked_values-reduced gaps values pg is)

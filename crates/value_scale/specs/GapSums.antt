@@ -1,8 +1,16 @@
 -- The values of a scale from its gaps, the bottom one first: each value is worked by one sum, from the bottom upwards.
-use Rattle.std.specs.Prelude.{List, [], ◌∷◌, pos, reverse, Result, Ok}
-use Rattle.integers.specs.Fraction.{Fraction, fraction_of}
+use Rattle.std.specs.Prelude.{List, [], ◌∷◌, ℤ, pos, reverse, Result, Ok}
+use Rattle.integers.specs.Fraction.{Fraction, SameFractions, IsWriting, over, fraction_of}
 use Rattle.frac128.specs.Checked.{◌>>=◌, checked_sum}
 use Rattle.frac128.specs.declared.number.TooWide.{TooWide}
+use Rattle.lp_macbeth.specs.Gaps.{scale_of}
+
+-- the values are the scale that the gaps make, however both are written
+abbrev pub AreScaleOf : List Fraction → List Fraction → Type 0
+AreScaleOf gaps values = (x : List ℤ) (n : ℤ) (w : List ℤ) (k : ℤ) → IsWriting gaps x n → IsWriting values w k
+    → SameFractions (over w k) (over (scale_of x) n)
+
+-- ---- how it is worked
 
 -- how high the elements stand above the bottom one, without it: each by its gap above the one below it, which stands at a
 unfoldable pub checked_heights : Fraction → List Fraction → Result (List Fraction) TooWide

@@ -1,6 +1,6 @@
 //! Laws of the definitions, as contracts of functions that do nothing.
 
-ghost use Rattle.std.specs.Prelude.{◌≡◌, ◌≢◌, ◌≤◌, All, None, Ok, ℕ, List, ℤ, pos, length, ◌<ℤ◌, ◌≤ℤ◌, ◌↔◌, IsTrue, Result as Answer};
+ghost use Rattle.std.specs.Prelude.{◌≡◌, ◌≢◌, ◌≤◌, ◌+◌, All, None, Ok, ℕ, List, ℤ, pos, length, ◌<ℤ◌, ◌≤ℤ◌, ◌↔◌, IsTrue, Result as Answer};
 ghost use Rattle.integers.specs.Fraction.{Fraction, IsFraction, AreFractions, over, SameFractions};
 ghost use Rattle.frac128.specs.Frac.{IsReduced};
 ghost use Rattle.judgement_matrix.specs.Matrix.{IsPair, Judgements};
@@ -8,6 +8,7 @@ ghost use Rattle.judgement_matrix.specs.Scale.{value_at, IsMetBy};
 ghost use Rattle.value_scale.specs.Anchor.{IsAnchoredScale, AreAnchored, AreReferences, NeverRise, IsFlat, checked_anchor};
 ghost use Rattle.judgement_matrix.specs.Values.{AreValues};
 ghost use Rattle.value_scale.specs.Basic.{AreLeastValues, IsFound, IsAnswered, TellTheSame};
+ghost use Rattle.value_scale.specs.GapSums.{AreScaleOf, checked_values};
 ghost use Rattle.value_scale.specs.Narrowing.{checked_slack};
 ghost use Rattle.value_scale.specs.Slack.{IsSlack, IsSlackOf, MeetValues};
 
@@ -74,6 +75,15 @@ pub fn worked_slacks_are_slacks()
     ensures { (m : Judgements) (values : List Fraction) (element : ℕ) (interval : Interval)
         → AreFractions values → MeetValues m values → 1 ≤ element → element ≤ m.size
         → checked_slack m values element ≡ Ok interval → IsSlackOf m values element interval }
+{}
+
+/// States that the values that the formula of gap sums gives are the scale of the gaps, in lowest terms, one more than there are
+/// gaps. It does nothing.
+pub fn worked_values_are_scales()
+    ensures scale { (gaps values : List Fraction) → AreFractions gaps
+        → checked_values gaps ≡ Ok values → AreScaleOf gaps values × All IsReduced values }
+    ensures each { (gaps values : List Fraction) → AreFractions gaps
+        → checked_values gaps ≡ Ok values → length values ≡ length gaps + 1 }
 {}
 
 /// States that the values of the least scale are those of a scale that meets the matrix: one for each element, the last one 0, and
