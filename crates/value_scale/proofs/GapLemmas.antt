@@ -121,14 +121,14 @@ values_reduced gaps h =
 
 -- ---- what the formula gives
 
-values_scale : (gaps : List Fraction) → AreFractions gaps → IfOk (checked_values gaps) (AreScaleOf gaps)
+pub values_scale : (gaps : List Fraction) → AreFractions gaps → IfOk (checked_values gaps) (AreScaleOf gaps)
 values_scale gaps pg = for_each (checked_values gaps) (λ x n written. values_written gaps x n pg written)
   where
     for_each : (r : Result (List Fraction) TooWide) → ((x : List ℤ) (n : ℤ) → IsWriting gaps x n → IfOk r (IsWritten (scale_of x) n)) → IfOk r (AreScaleOf gaps)
     for_each (Ok values) h = λ x n w k hx hw. IsWriting-same values w k (scale_of x) n (h x n hx).0 hw (h x n hx).1
     for_each (Err e) h = tt
 
-values_length : (gaps : List Fraction) → AreFractions gaps → IfOk (checked_values gaps) (λ values. length values ≡ length gaps + 1)
+pub values_length : (gaps : List Fraction) → AreFractions gaps → IfOk (checked_values gaps) (λ values. length values ≡ length gaps + 1)
 values_length gaps pg =
     let x = common_nums gaps in
     let n = common_den gaps in

@@ -12,5 +12,6 @@ pub use anchored_scale::{AnchorFault, anchor};
 pub use basic::{Basic, basic_of_outcome, basic_scale};
 pub use fault::ScaleFault;
 pub use frac128::NoMemory;
+pub use gap_sums::values_of_gaps;
 pub use lex_simplex::Count;
 pub use slacks::{Interval, slack};
