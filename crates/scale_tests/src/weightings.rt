@@ -10,12 +10,12 @@ use std::test::Fail;
 
 const MOST: i128 = i128::MAX;
 
-const WORD: i128 = 18446744073709551616;
+pub(crate) const WORD: i128 = 18446744073709551616;
 
-const HALF: i128 = 9223372036854775808;
+pub(crate) const HALF: i128 = 9223372036854775808;
 
 // The fraction of two numbers.
-fn made(num: i128, den: i128) -> Result<Frac, Fail> {
+pub(crate) fn made(num: i128, den: i128) -> Result<Frac, Fail> {
     if den == 0 {
         return Err(Fail::from("a denominator of 0"));
     }
