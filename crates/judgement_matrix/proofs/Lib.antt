@@ -13,3 +13,4 @@ pub mod ValueLemmas
 pub mod ScaleLemmas
 pub mod ShiftLemmas
 pub mod KeptMatrices
+pub mod MixLemmas

@@ -1,8 +1,9 @@
 //! What the definitions in the contracts amount to: functions that do nothing, whose contracts are the laws.
 
-ghost use Rattle.std.specs.Prelude.{◌≡◌, ◌⊎◌, ℕ, ◌+◌, ◌-◌, ◌≤◌, ◌↔◌, true, false, IsTrue, length, replicate, slice_get, Some, List, ℤ, pos, ◌≤ℤ◌, ◌<ℤ◌};
+ghost use Rattle.std.specs.Prelude.{◌≡◌, ◌⊎◌, ℕ, ◌+◌, ◌-◌, ◌≤◌, ◌↔◌, true, false, IsTrue, length, replicate, slice_get, Some, List, ℤ, pos, ◌+ℤ◌, ◌*ℤ◌, ◌≤ℤ◌, ◌<ℤ◌};
 ghost use Rattle.std.specs.List.{AllByRecursion};
 ghost use Rattle.integers.specs.Fraction.{Fraction, AreFractions, over, SameFractions};
+ghost use Rattle.integers.specs.Vector.{scale, add};
 ghost use Rattle.judgement_matrix.specs.declared.matrix.TheConstants.{LIMIT};
 ghost use Rattle.judgement_matrix.specs.Range.{full};
 ghost use Rattle.judgement_matrix.specs.Matrix.{IsPair, pairs, pairs_before, place, cell_at, unjudged, judged, cleared};
@@ -159,3 +160,12 @@ pub fn repairs(matrix: &Matrix)
     // What a matrix keeps is told by its size.
     prove!(matrix.size() >= 1);
 }
+
+/// States that a multiple of what meets a matrix in a unit meets it in that multiple of the unit, and a sum in the sum of the
+/// units. It does nothing.
+pub fn mixtures_meet_alike(matrix: &Matrix)
+    ensures multiple { (c u : ℤ) (w : List ℤ) → pos 0 ≤ℤ c → IsMetInUnit matrix.now u w
+        → IsMetInUnit matrix.now (c *ℤ u) (scale c w) }
+    ensures sum { (u t : ℤ) (w v : List ℤ) → IsMetInUnit matrix.now u w → IsMetInUnit matrix.now t v
+        → IsMetInUnit matrix.now (u +ℤ t) (add w v) }
+{}

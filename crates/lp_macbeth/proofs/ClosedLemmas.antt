@@ -50,7 +50,7 @@ met_in_unit_zero m w u nonneg h = record {
 -- ---- rows
 
 -- a product with one more number on each side
-dot_with_room : (xs x : List ℤ) (c r : ℤ) → length xs ≡ length x → dot (xs ++ c ∷ []) (x ++ r ∷ []) ≡ dot xs x +ℤ c *ℤ r
+pub dot_with_room : (xs x : List ℤ) (c r : ℤ) → length xs ≡ length x → dot (xs ++ c ∷ []) (x ++ r ∷ []) ≡ dot xs x +ℤ c *ℤ r
 dot_with_room xs x c r each = dot-append xs (c ∷ []) x (r ∷ []) each ∙ ap (λ y. dot xs x +ℤ y) (+ℤ_idr (c *ℤ r))
 
 -- a tag's constraint in unit 0

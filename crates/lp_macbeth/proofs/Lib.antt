@@ -14,6 +14,7 @@ pub mod ThresholdLemmas
 pub mod CutLemmas
 pub mod ClosedRowLemmas
 pub mod ClosedLemmas
+pub mod ClosedCostLemmas
 pub mod WeightingRowLemmas
 pub mod LeastGapLemmas
 pub mod WeightSumLemmas

@@ -1,13 +1,13 @@
 //! What the definitions in the contracts amount to: functions that do nothing, whose contracts are the laws.
 
-ghost use Rattle.std.specs.Prelude.{◌≡◌, ◌≤◌, ◌-◌, ◌↔◌, ◌++◌, ◌∷◌, [], List, ℤ, pos, ◌*ℤ◌, ◌≤ℤ◌, ◌<ℤ◌, length, take, Ok};
+ghost use Rattle.std.specs.Prelude.{◌≡◌, ◌≤◌, ◌<◌, ◌-◌, ◌↔◌, ◌++◌, ◌∷◌, [], List, ℤ, pos, ◌+ℤ◌, ◌*ℤ◌, ◌≤ℤ◌, ◌<ℤ◌, length, take, Ok};
 ghost use Rattle.frac128.specs.Problem.{IsFeasible, IsInfeasible, IsLeast, cost_and_numbers, cost_at};
 ghost use Rattle.frac128.specs.Range.{IsInRange};
 ghost use Rattle.integers.specs.Fraction.{IsWriting, SameFraction, fraction_of};
 ghost use Rattle.integers.specs.Lexicographic.{LexLess};
 ghost use Rattle.judgement_matrix.specs.Least.{IsSmaller, IsLeastScale};
 ghost use Rattle.judgement_matrix.specs.Matrix.{IsPair};
-ghost use Rattle.judgement_matrix.specs.Scale.{IsScale, IsMetInUnit, IsMetBy, IsInconsistent};
+ghost use Rattle.judgement_matrix.specs.Scale.{difference, IsScale, IsMetInUnit, IsMetBy, IsInconsistent};
 ghost use Rattle.lp_macbeth.specs.Closed.{closed_problem_of, IsClosedScale};
 ghost use Rattle.integers.specs.Vector.{dot};
 ghost use Rattle.integers.specs.Counting.{IsOrder};
@@ -82,6 +82,29 @@ pub fn closed_points_are_closed_scales(
         ↔ IsClosedScale matrix.now good neutral reach (scale_of x) r n }
     ensures units { (w : List ℤ) (u : ℤ) → pos 0 ≤ℤ u
         → IsMetInUnit matrix.now u w → IsMetInUnit matrix.now (pos 0) w }
+{}
+
+/// States what a point of a criterion's closed problem costs: where `a` is listed above `b` the difference of the two on the scale of
+/// its gaps, and else that difference and the reach. It does nothing.
+pub fn closed_costs_are_differences(
+    matrix: &Matrix,
+    good: usize,
+    neutral: usize,
+    reach: u32,
+    a: usize,
+    b: usize,
+)
+    requires references { IsPair matrix.now.size good neutral }
+    requires a { (1 ≤ a) × (a ≤ matrix.now.size) }
+    requires b { (1 ≤ b) × (b ≤ matrix.now.size) }
+    ensures above { (x : List ℤ) (r n : ℤ)
+        → IsFeasible (closed_problem_of matrix.now good neutral reach a b) (x ++ r ∷ []) n → a < b
+        → cost_at (closed_problem_of matrix.now good neutral reach a b) (x ++ r ∷ []) n
+        ≡ record { num = difference (scale_of x) a b; den = n } }
+    ensures below { (x : List ℤ) (r n : ℤ)
+        → IsFeasible (closed_problem_of matrix.now good neutral reach a b) (x ++ r ∷ []) n → b < a
+        → cost_at (closed_problem_of matrix.now good neutral reach a b) (x ++ r ∷ []) n
+        ≡ record { num = difference (scale_of x) a b +ℤ n *ℤ pos reach; den = n } }
 {}
 
 /// States that a point of a weighting's closed problem is a list of weights of the closure, none below 0 and of sum 1, which with 0
