@@ -21,7 +21,7 @@ use Rattle.judgement_matrix.specs.declared.tag.Tag.TheVariants.{Lower}
 use Rattle.judgement_matrix.proofs.EveryLemmas.{every-append, every-append_left, every-append_right, every-map, every_from_map}
 use Rattle.lp_macbeth.specs.Gaps.{gap_coefs, opposite, scale_of}
 use Rattle.lp_macbeth.specs.Rows.{row_of, judged_rows}
-use Rattle.lp_macbeth.specs.Closed.{closed_tags, closed_row_of, anchor_up, anchor_down, reach_up, reach_down, closed_problem_of, IsClosedScale}
+use Rattle.lp_macbeth.specs.Closed.{closed_tags, closed_row_of, anchor_up, anchor_down, reach_up, reach_down, closed_problem_with, closed_problem_of, IsClosedScale}
 use Rattle.lp_macbeth.proofs.ClosedRowLemmas.{length-row_of}
 use Rattle.lp_macbeth.proofs.CoefLemmas.{length-gap_coefs, length-opposite}
 use Rattle.lp_macbeth.proofs.GapLemmas.{dot-gap_coefs, length-scale_of}
@@ -213,3 +213,9 @@ closed_iff m good neutral reach a b x r n two references = (to, from)
               (All-from_every Met (anchor_up m.size good neutral ∷ anchor_down m.size good neutral ∷ reach_up m.size reach ∷ reach_down m.size reach ∷ [])
               four);
         }
+
+-- whatever the costs, the points are the same
+pub points_at_any_costs : (m : Judgements) (good neutral reach : ℕ) (cost other x : List ℤ) (n : ℤ)
+    → IsFeasible (closed_problem_with m good neutral reach cost) x n → IsFeasible (closed_problem_with m good neutral reach other) x n
+points_at_any_costs m good neutral reach cost other x n h =
+    record { den_pos = h.den_pos; one_each = h.one_each; nonneg = h.nonneg; meets = h.meets }

@@ -14,7 +14,7 @@ use Rattle.judgement_matrix.specs.declared.tag.Tag.{Tag}
 use Rattle.judgement_matrix.specs.declared.tag.Tag.TheVariants.{Lower, Zero, Cross, Order}
 use Rattle.lp_macbeth.specs.Gaps.{gap_coefs, opposite}
 use Rattle.lp_macbeth.specs.Rows.{row_of}
-use Rattle.lp_macbeth.specs.Closed.{closed_tags, closed_problem_of, closed_row_of, anchor_up, anchor_down, reach_up, reach_down, outer_coefs, closed_cost}
+use Rattle.lp_macbeth.specs.Closed.{closed_tags, closed_row_of, anchor_up, anchor_down, reach_up, reach_down, anchored_rows, outer_coefs, closed_cost, closed_problem_with}
 use Rattle.lp_macbeth.proofs.CoefLemmas.{length-gap_coefs, length-opposite, length-cross_coefs}
 use Rattle.lp_macbeth.proofs.RangeLemmas.{small_in_range, gap_coefs_in_range, opposite_in_range, cross_coefs_in_range}
 use Rattle.lp_macbeth.proofs.ScaleLemmas.{gap_coefs_nonneg}
@@ -131,14 +131,13 @@ IsCost-closed n a b apart ha hb = by_order (cases_lt a b)
 
 -- ---- the problem, of the parts that the code makes
 
-pub closed_problem_is : (m : Judgements) (good neutral reach a b n : ℕ) (cost : List ℤ) (compared anchored rows : List Row) → n ≡ m.size
-    → cost ≡ closed_cost n a b → compared ≡ map (closed_row_of m) (closed_tags m)
+pub closed_problem_is : (m : Judgements) (good neutral reach n : ℕ) (cost given : List ℤ) (compared anchored rows : List Row) → n ≡ m.size
+    → cost ≡ given → compared ≡ map (closed_row_of m) (closed_tags m)
     → anchored ≡ compared ++ anchor_up n good neutral ∷ anchor_down n good neutral ∷ [] → rows ≡ anchored ++ reach_up n reach ∷ reach_down n reach ∷ []
-    → problem_of n cost rows ≡ closed_problem_of m good neutral reach a b
-closed_problem_is m good neutral reach a b n cost compared anchored rows size costs pairs anchors reaches =
+    → problem_of n cost rows ≡ closed_problem_with m good neutral reach given
+closed_problem_is m good neutral reach n cost given compared anchored rows size costs pairs anchors reaches =
     let all : List Row = map (closed_row_of m) (closed_tags m) in
-    let made : rows ≡ all ++ anchor_up n good neutral ∷ anchor_down n good neutral ∷ reach_up n reach ∷ reach_down n reach ∷ [] =
+    let made : rows ≡ all ++ anchored_rows n good neutral reach =
     reaches ∙ ap (λ l. l ++ reach_up n reach ∷ reach_down n reach ∷ []) (anchors ∙ ap (λ l. l ++ anchor_up n good neutral ∷ anchor_down n good neutral ∷ []) pairs)
     ∙ append_assoc all (anchor_up n good neutral ∷ anchor_down n good neutral ∷ []) (reach_up n reach ∷ reach_down n reach ∷ []) in
-    ap₂ (problem_of n) costs made
-    ∙ ap (λ s. problem_of s (closed_cost s a b) (all ++ anchor_up s good neutral ∷ anchor_down s good neutral ∷ reach_up s reach ∷ reach_down s reach ∷ [])) size
+    ap₂ (problem_of n) costs made ∙ ap (λ s. problem_of s given (all ++ anchored_rows s good neutral reach)) size

@@ -44,15 +44,22 @@ outer_coefs n p q = replicate (n - q) (pos 1) ++ replicate (q - p) (pos 0) ++ re
 abbrev pub closed_cost : ℕ → ℕ → ℕ → List ℤ
 closed_cost n a b = cond (nat_lt a b) (gap_coefs n a b ++ pos 0 ∷ []) (outer_coefs n b a ++ pos 1 ∷ [])
 
--- the variables are the gaps, bottom first, and the room
-abbrev pub closed_problem_of : Judgements → ℕ → ℕ → ℕ → ℕ → ℕ → ProblemData
-closed_problem_of m good neutral reach a b = record {
+-- the rows beside those of Zero and Cross
+abbrev pub anchored_rows : ℕ → ℕ → ℕ → ℕ → List Row
+anchored_rows n good neutral reach = anchor_up n good neutral ∷ anchor_down n good neutral ∷ reach_up n reach
+    ∷ reach_down n reach ∷ []
+
+-- the variables are the gaps, bottom first, and the room; they have these costs
+abbrev pub closed_problem_with : Judgements → ℕ → ℕ → ℕ → List ℤ → ProblemData
+closed_problem_with m good neutral reach cost = record {
   vars = m.size;
-  cost = closed_cost m.size a b;
-  rows = map (closed_row_of m) (closed_tags m)
-      ++ anchor_up m.size good neutral ∷ anchor_down m.size good neutral
-      ∷ reach_up m.size reach ∷ reach_down m.size reach ∷ [];
+  cost = cost;
+  rows = map (closed_row_of m) (closed_tags m) ++ anchored_rows m.size good neutral reach;
 }
+
+-- what costs is the difference of a over b
+abbrev pub closed_problem_of : Judgements → ℕ → ℕ → ℕ → ℕ → ℕ → ProblemData
+closed_problem_of m good neutral reach a b = closed_problem_with m good neutral reach (closed_cost m.size a b)
 
 -- w over n is a scale that meets the judgements in unit 0, good stands 100 above neutral, and the span leaves the room
 -- r of the reach

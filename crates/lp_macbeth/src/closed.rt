@@ -1,10 +1,12 @@
 //! The closed problem of a criterion: the least difference of two elements over the closure of its open scales.
 
-ghost use Rattle.std.specs.Prelude.{◌≡◌, ◌≢◌, ◌++◌, ◌∷◌, [], ◌-◌, ◌≤◌, ◌<◌, ℤ, pos, neg_ℤ, map, replicate, All, IfOk};
+ghost use Rattle.std.specs.Prelude.{◌≡◌, ◌≢◌, ◌++◌, ◌∷◌, [], ◌-◌, ◌≤◌, ◌<◌, ℤ, pos, neg_ℤ, length, map, replicate, All, IfOk};
 ghost use Rattle.frac128.specs.Problem.{IsRow};
+ghost use Rattle.frac128.specs.Range.{IsInRange};
+ghost use Rattle.integers.specs.Vector.{AreNonNegative};
 ghost use Rattle.judgement_matrix.specs.Matrix.{IsPair};
 ghost use Rattle.judgement_matrix.specs.Rows.{IsTagAmong};
-ghost use Rattle.lp_macbeth.specs.Closed.{closed_tags, closed_row_of, anchor_up, anchor_down, reach_up, reach_down, outer_coefs, closed_cost, closed_problem_of};
+ghost use Rattle.lp_macbeth.specs.Closed.{closed_tags, closed_row_of, anchor_up, anchor_down, reach_up, reach_down, outer_coefs, closed_cost, closed_problem_with as problem_with, closed_problem_of};
 ghost use Rattle.lp_macbeth.specs.Gaps.{gap_coefs, opposite};
 ghost use Rattle.lp_macbeth.specs.Rows.{row_of};
 
@@ -37,14 +39,34 @@ pub fn closed_problem(
     ensures { IfOk result (λ problem. problem
         ≡ closed_problem_of matrix.now good neutral reach a b) }
 {
+    let cost = cost(alloc, matrix.size(), a, b)?;
+    closed_problem_with(alloc, matrix, good, neutral, reach, cost)
+}
+
+/// The same problem with other costs: one for each gap, bottom first, and one for the room, none below 0.
+pub fn closed_problem_with(
+    alloc: Global,
+    matrix: &Matrix,
+    good: usize,
+    neutral: usize,
+    reach: u32,
+    cost: Vec<i128>,
+) -> Result<Problem, NoMemory>
+    requires references { IsPair matrix.now.size good neutral }
+    requires most { reach ≤ 1000000 }
+    requires one_each { length cost.items ≡ matrix.now.size }
+    requires nonneg { AreNonNegative cost.items }
+    requires in_range { All IsInRange cost.items }
+    ensures { IfOk result (λ problem. problem
+        ≡ problem_with matrix.now good neutral reach cost.items) }
+{
     let n = matrix.size();
     let tags = closed_tags(alloc, matrix)?;
     let mut rows = Vec::new(alloc);
     push_compared(alloc, &mut rows, matrix, tags.as_slice())?;
     push_anchors(alloc, &mut rows, n, good, neutral)?;
     push_reaches(alloc, &mut rows, n, reach)?;
-    let cost = cost(alloc, n, a, b)?;
-    Ok(Problem::make(n, cost, List::make(rows)))
+    Ok(Problem::make(n, List::make(cost), List::make(rows)))
 }
 
 // Adds the rows that compare pairs.
@@ -173,21 +195,21 @@ fn opposite_row(
 }
 
 // The cost of the gaps and of the room.
-fn cost(alloc: Global, n: usize, a: usize, b: usize) -> Result<List<i128>, NoMemory>
+fn cost(alloc: Global, n: usize, a: usize, b: usize) -> Result<Vec<i128>, NoMemory>
     requires apart { a ≢ b }
     requires a { (1 ≤ a) × (a ≤ n) }
     requires b { (1 ≤ b) × (b ≤ n) }
-    ensures { IfOk result (λ cost. cost ≡ closed_cost n a b) }
+    ensures { IfOk result (λ cost. cost.items ≡ closed_cost n a b) }
 {
     let mut cost = Vec::new(alloc);
     if a < b {
         push_difference(&mut cost, n, a, b)?;
         cost.push(0)?;
-        return Ok(List::make(cost));
+        return Ok(cost);
     }
     push_outer(&mut cost, n, b, a)?;
     cost.push(1)?;
-    Ok(List::make(cost))
+    Ok(cost)
 }
 
 // Adds 1 for each gap that isn't between the elements and 0 for the others.

@@ -8,7 +8,7 @@ ghost use Rattle.integers.specs.Lexicographic.{LexLess};
 ghost use Rattle.judgement_matrix.specs.Least.{IsSmaller, IsLeastScale};
 ghost use Rattle.judgement_matrix.specs.Matrix.{IsPair};
 ghost use Rattle.judgement_matrix.specs.Scale.{difference, IsScale, IsMetInUnit, IsMetBy, IsInconsistent};
-ghost use Rattle.lp_macbeth.specs.Closed.{closed_problem_of, IsClosedScale};
+ghost use Rattle.lp_macbeth.specs.Closed.{closed_problem_with, closed_problem_of, IsClosedScale};
 ghost use Rattle.integers.specs.Vector.{dot};
 ghost use Rattle.integers.specs.Counting.{IsOrder};
 ghost use Rattle.lp_macbeth.specs.ClosedWeighting.{checked_weighting, weights_of, in_order, IsClosedWeighting, IsLeastOf, AreCostNumbers, weighted_gap};
@@ -66,8 +66,8 @@ pub fn thresholds_are_enough(matrix: &Matrix)
 }
 
 /// States that a point of a criterion's closed problem is a scale that meets the matrix in unit 0, with good 100 above neutral,
-/// and its room, which is what the span leaves of the reach; and that each unit of at least 0 asks for at least what the unit
-/// 0 asks for. It does nothing.
+/// and its room, which is what the span leaves of the reach, whatever the costs; and that each unit of at least 0 asks for at
+/// least what the unit 0 asks for. It does nothing.
 pub fn closed_points_are_closed_scales(
     matrix: &Matrix,
     good: usize,
@@ -80,6 +80,9 @@ pub fn closed_points_are_closed_scales(
     ensures points { (x : List ℤ) (r n : ℤ)
         → IsFeasible (closed_problem_of matrix.now good neutral reach a b) (x ++ r ∷ []) n
         ↔ IsClosedScale matrix.now good neutral reach (scale_of x) r n }
+    ensures costs { (cost x : List ℤ) (n : ℤ)
+        → IsFeasible (closed_problem_with matrix.now good neutral reach cost) x n
+        ↔ IsFeasible (closed_problem_of matrix.now good neutral reach a b) x n }
     ensures units { (w : List ℤ) (u : ℤ) → pos 0 ≤ℤ u
         → IsMetInUnit matrix.now u w → IsMetInUnit matrix.now (pos 0) w }
 {}

@@ -17,7 +17,7 @@ mod translation;
 mod weight;
 mod weighting;
 
-pub use closed::closed_problem;
+pub use closed::{closed_problem, closed_problem_with};
 pub use frac128::NoMemory;
 pub use gap_rows::{problem, rows};
 pub use pairs::element_pairs;
