@@ -113,7 +113,7 @@ compared_iff_met m x z n R says each nonneg = (to, from)
         (every_both (IsTagAmong m.size) Q (λ tag. IsRowMetBy z n (R tag)) (λ tag a k. (says tag a).1 k) (closed_tags m) among compared))
 
 -- the same with the room
-compared_with_room : (m : Judgements) (x : List ℤ) (r n : ℤ) → suc (length x) ≡ m.size → AreNonNegative x
+pub compared_with_room : (m : Judgements) (x : List ℤ) (r n : ℤ) → suc (length x) ≡ m.size → AreNonNegative x
     → All (IsRowMetBy (x ++ r ∷ []) n) (map (closed_row_of m) (closed_tags m)) ↔ IsMetInUnit m (pos 0) (scale_of x)
 compared_with_room m x r n each nonneg = compared_iff_met m x (x ++ r ∷ []) n (closed_row_of m) (λ tag among. closed_met_tag m x r n tag each among) each nonneg
 

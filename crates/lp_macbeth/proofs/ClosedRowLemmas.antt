@@ -141,3 +141,16 @@ closed_problem_is m good neutral reach n cost given compared anchored rows size 
     reaches ∙ ap (λ l. l ++ reach_up n reach ∷ reach_down n reach ∷ []) (anchors ∙ ap (λ l. l ++ anchor_up n good neutral ∷ anchor_down n good neutral ∷ []) pairs)
     ∙ append_assoc all (anchor_up n good neutral ∷ anchor_down n good neutral ∷ []) (reach_up n reach ∷ reach_down n reach ∷ []) in
     ap₂ (problem_of n) costs made ∙ ap (λ s. problem_of s given (all ++ anchored_rows s good neutral reach)) size
+
+-- the rows beside those of pairs
+pub anchored_rows_fit : (n good neutral reach : ℕ) → IsPair n good neutral → reach ≤ 1000000 → All (IsRow n) (anchored_rows n good neutral reach)
+anchored_rows_fit n good neutral reach in_n most =
+    reaches_fit n reach (anchor_up n good neutral ∷ anchor_down n good neutral ∷ []) (omega arith) most (anchors_fit n good neutral [] in_n (All-nil (IsRow n)))
+
+-- as the code makes them
+pub anchored_rows_are : (n good neutral reach size : ℕ) (none anchored rows : List Row) → size ≡ n → none ≡ []
+    → anchored ≡ none ++ anchor_up size good neutral ∷ anchor_down size good neutral ∷ [] → rows ≡ anchored ++ reach_up size reach ∷ reach_down size reach ∷ []
+    → rows ≡ anchored_rows n good neutral reach
+anchored_rows_are n good neutral reach size none anchored rows same empty first second =
+    second ∙ ap (λ l. l ++ reach_up size reach ∷ reach_down size reach ∷ [])
+    (first ∙ ap (λ l. l ++ anchor_up size good neutral ∷ anchor_down size good neutral ∷ []) empty) ∙ ap (λ s. anchored_rows s good neutral reach) same

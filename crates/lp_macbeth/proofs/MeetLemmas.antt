@@ -61,7 +61,7 @@ dot-both : (xs ts x t : List ℤ) (a b : ℤ) → length xs ≡ length x → dot
 dot-both xs ts x t a b each first second = dot-append xs ts x t each ∙ ap₂ (λ u v. u +ℤ v) first second
 
 -- a row holds at gaps and thresholds exactly where its constraint holds of the scale and the thresholds
-met_tag : (m : Judgements) (x t : List ℤ) (n : ℤ) (tag : ThresholdTag) → suc (length x) ≡ m.size → length t ≡ 5 → IsThresholdTagOf m tag
+pub met_tag : (m : Judgements) (x t : List ℤ) (n : ℤ) (tag : ThresholdTag) → suc (length x) ≡ m.size → length t ≡ 5 → IsThresholdTagOf m tag
     → IsRowMetBy (x ++ t) n (threshold_row_of m tag) ↔ TagHolds m (scale_of x) t n tag
 met_tag m x t n (At p q) each five of =
     let lo : ℕ = (range_at m p q).lo in
@@ -95,7 +95,7 @@ met_tag m x t n (Step k) each five of =
 -- ---- all rows
 
 -- what holds of the tags of the pairs that pass a test
-every_tag : (n : ℕ) (P : ThresholdTag → Type 0) (f : ℕ × ℕ → ThresholdTag) (test : ℕ × ℕ → Bool)
+pub every_tag : (n : ℕ) (P : ThresholdTag → Type 0) (f : ℕ × ℕ → ThresholdTag) (test : ℕ × ℕ → Bool)
     → AllByRecursion P (map f (filter test (pairs n))) ↔ ((p q : ℕ) → IsPair n p q → test (p, q) ≡ true → P (f (p, q)))
 every_tag n P f test = (
   λ h. every_at_pair n (λ p q. test (p, q) ≡ true → P (f (p, q)))

@@ -16,7 +16,7 @@ use Rattle.lp_macbeth.proofs.ThresholdRowLemmas.{IsRow-at, IsRow-equal, IsRow-be
 use Rattle.lp_macbeth.proofs.ThresholdTagLemmas.{All-threshold_rows}
 
 -- the constraint of each tag is a row
-row_fits : (m : Judgements) → IsMatrix m → (tag : ThresholdTag) → IsThresholdTagOf m tag → IsRow (m.size - 1 + 5) (threshold_row_of m tag)
+pub row_fits : (m : Judgements) → IsMatrix m → (tag : ThresholdTag) → IsThresholdTagOf m tag → IsRow (m.size - 1 + 5) (threshold_row_of m tag)
 row_fits m is (At p q) h =
     let range = IsRange-range_at m is p q in
     IsRow-at m.size p q (range_at m p q).lo h.0 (omega (arith, range))

@@ -44,12 +44,15 @@ sum_up k = record { coefs = falling k; bound = pos 1 }
 abbrev pub sum_down : ℕ → Row
 sum_down k = record { coefs = opposite (falling k); bound = neg_ℤ (pos 1) }
 
+abbrev pub sum_rows : ℕ → List Row
+sum_rows k = sum_up k ∷ sum_down k ∷ []
+
 -- the variables are the gaps, bottom first
 abbrev pub weighting_problem_of : Judgements → List ℤ → ProblemData
 weighting_problem_of m cost = record {
   vars = m.size - 1;
   cost = cost;
-  rows = map (weighting_row_of m) (closed_tags m) ++ sum_up (m.size - 1) ∷ sum_down (m.size - 1) ∷ [];
+  rows = map (weighting_row_of m) (closed_tags m) ++ sum_rows (m.size - 1);
 }
 
 -- ---- its costs: what each step forms, up to the first that leaves the range

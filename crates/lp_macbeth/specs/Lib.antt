@@ -7,3 +7,4 @@ pub mod Passing
 pub mod Translated
 pub mod ClosedWeighting
 pub mod RowTags
+pub mod ClosedThreshold

@@ -123,8 +123,8 @@ pub(crate) fn push_coefs(coefs: &mut Vec<i128>, matrix: &Matrix, tag: Tag) -> Re
     }
 }
 
-// Adds the rows that set good and neutral 100 apart.
-fn push_anchors(
+/// Adds the rows that set good and neutral 100 apart.
+pub(crate) fn push_anchors(
     alloc: Global,
     rows: &mut Vec<Row>,
     n: usize,
@@ -140,8 +140,13 @@ fn push_anchors(
     Ok(())
 }
 
-// Adds the rows that set the span and the room to the reach.
-fn push_reaches(alloc: Global, rows: &mut Vec<Row>, n: usize, reach: u32) -> Result<(), NoMemory>
+/// Adds the rows that set the span and the room to the reach.
+pub(crate) fn push_reaches(
+    alloc: Global,
+    rows: &mut Vec<Row>,
+    n: usize,
+    reach: u32,
+) -> Result<(), NoMemory>
     requires least { 2 ≤ n }
     requires most { reach ≤ 1000000 }
     ensures { IfOk result (λ _. rows.new.items
@@ -194,8 +199,8 @@ fn opposite_row(
     })
 }
 
-// The cost of the gaps and of the room.
-fn cost(alloc: Global, n: usize, a: usize, b: usize) -> Result<Vec<i128>, NoMemory>
+/// The cost of the gaps and of the room.
+pub(crate) fn cost(alloc: Global, n: usize, a: usize, b: usize) -> Result<Vec<i128>, NoMemory>
     requires apart { a ≢ b }
     requires a { (1 ≤ a) × (a ≤ n) }
     requires b { (1 ≤ b) × (b ≤ n) }

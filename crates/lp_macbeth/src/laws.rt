@@ -11,7 +11,8 @@ ghost use Rattle.judgement_matrix.specs.Scale.{difference, IsScale, IsMetInUnit,
 ghost use Rattle.lp_macbeth.specs.Closed.{closed_problem_with, closed_problem_of, IsClosedScale};
 ghost use Rattle.integers.specs.Vector.{dot};
 ghost use Rattle.integers.specs.Counting.{IsOrder};
-ghost use Rattle.lp_macbeth.specs.ClosedWeighting.{checked_weighting, weights_of, in_order, IsClosedWeighting, IsLeastOf, AreCostNumbers, weighted_gap};
+ghost use Rattle.lp_macbeth.specs.ClosedThreshold.{closed_thresholds_with, weighting_thresholds_of, IsThresholdForm};
+ghost use Rattle.lp_macbeth.specs.ClosedWeighting.{checked_weighting, weighting_problem_of, weights_of, in_order, IsClosedWeighting, IsLeastOf, AreCostNumbers, weighted_gap};
 ghost use Rattle.lp_macbeth.specs.Gaps.{scale_of, gaps_of};
 ghost use Rattle.lp_macbeth.specs.Rows.{problem_of};
 ghost use Rattle.lp_macbeth.specs.Threshold.{threshold_problem_of};
@@ -159,4 +160,34 @@ pub fn costs_are_weighted_gaps(
 {
     // For the proofs alone: the denominators are positive.
     are_fractions(gaps);
+}
+
+/// States that the threshold form of a criterion's closed problem has the same points, cut to the gaps and the room, the same values
+/// and the same least point, whatever the costs. It does nothing.
+pub fn closed_thresholds_are_enough(
+    matrix: &Matrix,
+    good: usize,
+    neutral: usize,
+    reach: u32,
+    cost: &[i128],
+)
+    requires references { IsPair matrix.now.size good neutral }
+    requires one_each { length cost.now ≡ matrix.now.size }
+    ensures { IsThresholdForm (closed_problem_with matrix.now good neutral reach cost.now)
+        (closed_thresholds_with matrix.now good neutral reach cost.now) }
+{
+    // The fact that every matrix keeps is told where its size is read.
+    matrix.size();
+}
+
+/// States that the threshold form of a weighting's closed problem has the same points, cut to the gaps, the same values and the same
+/// least point, whatever the costs. It does nothing.
+pub fn weighting_thresholds_are_enough(matrix: &Matrix, cost: &[i128])
+    requires size { 2 ≤ matrix.now.size }
+    requires one_each { length cost.now ≡ matrix.now.size - 1 }
+    ensures { IsThresholdForm (weighting_problem_of matrix.now cost.now)
+        (weighting_thresholds_of matrix.now cost.now) }
+{
+    // The fact that every matrix keeps is told where its size is read.
+    matrix.size();
 }

@@ -2,6 +2,7 @@
 #![tactic(auto)]
 
 mod closed;
+mod closed_form;
 mod gap_rows;
 mod gaps;
 mod kinds;
@@ -18,6 +19,7 @@ mod weight;
 mod weighting;
 
 pub use closed::{closed_problem, closed_problem_with};
+pub use closed_form::{closed_thresholds, closed_thresholds_with, weighting_thresholds};
 pub use frac128::NoMemory;
 pub use gap_rows::{problem, rows};
 pub use pairs::element_pairs;

@@ -44,8 +44,8 @@ fn rows_of(alloc: Global, matrix: &Matrix, tags: &[ThresholdTag]) -> Result<List
     Ok(List::make(rows))
 }
 
-// The constraint of a tag.
-fn row(alloc: Global, matrix: &Matrix, tag: ThresholdTag) -> Result<Row, NoMemory>
+/// The constraint of a tag.
+pub(crate) fn row(alloc: Global, matrix: &Matrix, tag: ThresholdTag) -> Result<Row, NoMemory>
     requires { IsThresholdTagOf matrix.now tag }
     ensures row { IfOk result (λ row. row ≡ threshold_row_of matrix.now tag) }
     ensures fits { IfOk result (IsRow (matrix.now.size - 1 + 5)) }

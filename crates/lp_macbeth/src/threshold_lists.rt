@@ -53,8 +53,8 @@ fn push_at_of(tags: &mut Vec<ThresholdTag>, matrix: &Matrix, pair: (u8, u8)) -> 
     Ok(())
 }
 
-// Adds the pairs whose ranges are 0 alone.
-fn push_equal(
+/// Adds the pairs whose ranges are 0 alone.
+pub(crate) fn push_equal(
     tags: &mut Vec<ThresholdTag>,
     matrix: &Matrix,
     pairs: &[(u8, u8)],
@@ -85,8 +85,8 @@ fn push_equal_of(
     Ok(())
 }
 
-// Adds the pairs whose ranges end at 1 to 5.
-fn push_below(
+/// Adds the pairs whose ranges end at 1 to 5.
+pub(crate) fn push_below(
     tags: &mut Vec<ThresholdTag>,
     matrix: &Matrix,
     pairs: &[(u8, u8)],
@@ -118,8 +118,8 @@ fn push_below_of(
     Ok(())
 }
 
-// Adds each threshold but the first.
-fn push_steps(tags: &mut Vec<ThresholdTag>) -> Result<(), NoMemory>
+/// Adds each threshold but the first.
+pub(crate) fn push_steps(tags: &mut Vec<ThresholdTag>) -> Result<(), NoMemory>
     ensures { IfOk result (λ _. tags.new.items ≡ tags.old.items ++ step_rows) }
 {
     for threshold in 2..6 {

@@ -276,8 +276,8 @@ fn weighting_row(alloc: Global, matrix: &Matrix, tag: Tag) -> Result<Row, NoMemo
     })
 }
 
-// Adds the rows that set the sum of the weights to 1.
-fn push_sums(alloc: Global, rows: &mut Vec<Row>, count: usize) -> Result<(), NoMemory>
+/// Adds the rows that set the sum of the weights to 1.
+pub(crate) fn push_sums(alloc: Global, rows: &mut Vec<Row>, count: usize) -> Result<(), NoMemory>
     ensures { IfOk result (λ _. rows.new.items
         ≡ rows.old.items ++ sum_up count ∷ sum_down count ∷ []) }
 {
