@@ -55,17 +55,17 @@ own_numbers m on = map (λ w. pos w) (own_weights (ranges m) (threshold_weights 
 
 -- ---- numbers of rows by their tags
 
-rows_are : {T : Type 0} (row : T → Row) (h : Row → ℤ) (g : T → ℤ) (P : T → Type 0) → ((t : T) → P t → h (row t) ≡ g t) → (ts : List T) → All P ts
+pub rows_are : {T : Type 0} (row : T → Row) (h : Row → ℤ) (g : T → ℤ) (P : T → Type 0) → ((t : T) → P t → h (row t) ≡ g t) → (ts : List T) → All P ts
     → map h (map row ts) ≡ map g ts
 rows_are row h g P same [] all = refl
 rows_are row h g P same (t ∷ ts) all = ap₂ (λ x xs. x ∷ xs) (same t (All-head P t ts all)) (rows_are row h g P same ts (All-tail P t ts all))
 
-rows_at_least : {T : Type 0} (row : T → Row) (h : Row → ℤ) (g : T → ℤ) (P : T → Type 0) → ((t : T) → P t → g t ≤ℤ h (row t)) → (ts : List T) → All P ts
+pub rows_at_least : {T : Type 0} (row : T → Row) (h : Row → ℤ) (g : T → ℤ) (P : T → Type 0) → ((t : T) → P t → g t ≤ℤ h (row t)) → (ts : List T) → All P ts
     → AreAtMost (map g ts) (map h (map row ts))
 rows_at_least row h g P most [] all = tt
 rows_at_least row h g P most (t ∷ ts) all = (most t (All-head P t ts all), rows_at_least row h g P most ts (All-tail P t ts all))
 
-whole_nonneg : (ws : List ℕ) → AreNonNegative (whole ws)
+pub whole_nonneg : (ws : List ℕ) → AreNonNegative (whole ws)
 whole_nonneg [] = All-nil (λ x. pos 0 ≤ℤ x)
 whole_nonneg (w ∷ ws) = All-cons (λ x. pos 0 ≤ℤ x) (pos w) (whole ws) (omega (arith, lin)) (whole_nonneg ws)
 
@@ -74,7 +74,7 @@ dot_each-rows : (u : List ℤ) (rows : List Row) → dot_each (map (λ (r : Row)
 dot_each-rows u [] = refl
 dot_each-rows u (r ∷ rows) = ap (λ xs. dot r.coefs u ∷ xs) (dot_each-rows u rows)
 
-combination-dot : (p : ProblemData) (on : List (ℕ × ℤ)) (u : List ℤ) → dot (combination p on).coefs u
+pub combination-dot : (p : ProblemData) (on : List (ℕ × ℤ)) (u : List ℤ) → dot (combination p on).coefs u
     ≡ dot (multipliers on) (map (λ (r : Row). dot r.coefs u) (rows_on p.rows on))
 combination-dot p on u =
     let zeros : List ℤ = replicate p.vars (pos 0) in
@@ -86,14 +86,14 @@ combination-dot p on u =
 -- ---- the thresholds from one on
 
 -- 1 where a number is at least j
-abbrev flag : ℕ → ℕ → ℤ
+abbrev pub flag : ℕ → ℕ → ℤ
 flag j k = cond (nat_le j k) (pos 1) (pos 0)
 
-abbrev flags : ℕ → List ℤ
+abbrev pub flags : ℕ → List ℤ
 flags j = flag j 1 ∷ flag j 2 ∷ flag j 3 ∷ flag j 4 ∷ flag j 5 ∷ []
 
 -- 1 for the thresholds from j on
-abbrev upper : ℕ → ℕ → List ℤ
+abbrev pub upper : ℕ → ℕ → List ℤ
 upper n j = replicate (n - 1) (pos 0) ++ flags j
 
 flag-none : (j : ℕ) → flag (suc j) 0 ≡ pos 0
@@ -138,13 +138,13 @@ flag_rises j k = step (cases_lt k j)
         rw e (most (nat_le j (k - 1)))
 
 -- the numbers that rows have for them, by tags
-abbrev at_flag : Judgements → ℕ → ℕ → ℕ → ℤ
+abbrev pub at_flag : Judgements → ℕ → ℕ → ℕ → ℤ
 at_flag m j p q = negsuc 0 *ℤ flag (suc j) (range_at m p q).lo
 
-abbrev below_flag : Judgements → ℕ → ℕ → ℕ → ℤ
+abbrev pub below_flag : Judgements → ℕ → ℕ → ℕ → ℤ
 below_flag m j p q = pos 1 *ℤ flag j (range_at m p q).hi
 
-abbrev no_flag : ℕ → ℕ → ℤ
+abbrev pub no_flag : ℕ → ℕ → ℤ
 no_flag p q = pos 0
 
 -- a row of two parts with the thresholds
@@ -158,7 +158,7 @@ flag_below_lo j lo l =
     let e : nat_le j (lo - 1) ≡ nat_le (suc j) lo = grind (arith, common_steps) in
     ap (λ b. cond b (pos 1) (pos 0)) e
 
-tag_flags : (m : Judgements) → IsMatrix m → (j : ℕ) (tag : ThresholdTag) → IsThresholdTagOf m tag
+pub tag_flags : (m : Judgements) → IsMatrix m → (j : ℕ) (tag : ThresholdTag) → IsThresholdTagOf m tag
     → threshold_number (at_flag m (suc j)) (below_flag m (suc j)) no_flag tag ≤ℤ dot (threshold_row_of m tag).coefs (upper m.size (suc j))
 tag_flags m matrix j (AtRow p q) of =
     let range = IsRange-range_at m matrix p q in
@@ -210,12 +210,22 @@ flags-dot category c j (p ∷ ps) (x ∷ xs) of =
         ∙ ring3 (λ x c y. x ⊗ (c ⊗ con (pos 0)) ⊕ c ⊗ y ≗ c ⊗ y) refl (pos x.1) c (pos (from j xs)) ∙ ap (λ n. c *ℤ pos n) (sym total)
 
 -- products with 0
-no_flags-dot : (ws : List ℤ) (ps : List (ℕ × ℕ)) → dot ws (map (λ pair. no_flag pair.0 pair.1) ps) ≡ pos 0
+pub no_flags-dot : (ws : List ℤ) (ps : List (ℕ × ℕ)) → dot ws (map (λ pair. no_flag pair.0 pair.1) ps) ≡ pos 0
 no_flags-dot [] ps = refl
 no_flags-dot (w ∷ ws) [] = refl
 no_flags-dot (w ∷ ws) (p ∷ ps) = ap₂ (λ a b. a +ℤ b) (*ℤ-zero w) (no_flags-dot ws ps)
 
 -- ---- what ends from a category on is no more than what begins above it
+
+pub covered_from_flags : (m : Judgements) (j : ℕ) (ats belows : List (ℕ × ℕ)) → AreOf (λ pair. (range_at m pair.0 pair.1).lo) (pairs m.size) ats
+    → AreOf (λ pair. (range_at m pair.0 pair.1).hi) (pairs m.size) belows
+    → (dot (numbers ats) (map (λ pair. at_flag m (suc j) pair.0 pair.1) (pairs m.size))
+    +ℤ dot (numbers belows) (map (λ pair. below_flag m (suc j) pair.0 pair.1) (pairs m.size))) ≤ℤ pos 0
+    → from (suc j) belows ≤ from (suc (suc j)) ats
+covered_from_flags m j ats belows of_ats of_belows low =
+    let at = flags-dot (λ (pair : ℕ × ℕ). (range_at m pair.0 pair.1).lo) (negsuc 0) (suc (suc j)) (pairs m.size) ats of_ats in
+    let below = flags-dot (λ (pair : ℕ × ℕ). (range_at m pair.0 pair.1).hi) (pos 1) (suc j) (pairs m.size) belows of_belows in
+    omega (arith, lin, at, below, low)
 
 covered_above : (m : Judgements) → IsMatrix m → (on : List (ℕ × ℤ)) → AreRowMultipliers (length (threshold_problem_of m).rows) on → (ws : List ℕ) → ws
     ≡ threshold_weights m on
@@ -235,10 +245,8 @@ covered_above m matrix on are ws is j none =
     (rows_at_least (threshold_row_of m) h g (IsThresholdTagOf m) (tag_flags m matrix j) (threshold_rows m) (All-threshold_rows m)) (whole_nonneg ws) in
     let parts = threshold_number-dot m (at_flag m (suc j)) (below_flag m (suc j)) no_flag ws in
     let of = parts_are_of m ws in
-    let at = flags-dot (λ (pair : ℕ × ℕ). (range_at m pair.0 pair.1).lo) (negsuc 0) (suc (suc j)) (pairs m.size) (ats_of (ranges m) ws) of.0 in
-    let below = flags-dot (λ (pair : ℕ × ℕ). (range_at m pair.0 pair.1).hi) (pos 1) (suc j) (pairs m.size) (belows_of (ranges m) ws) of.1 in
     let equal = no_flags-dot (numbers (equals_of (ranges m) ws)) (pairs m.size) in
-    omega (arith, lin, sum, most, parts, at, below, equal, none)
+    covered_from_flags m j (ats_of (ranges m) ws) (belows_of (ranges m) ws) of.0 of.1 (omega (arith, lin, sum, most, parts, equal, none))
 
 -- without weight at category 0 all weights are from 1 on
 from_one : (xs : List (ℕ × ℕ)) → AreNone (nat_le 1) xs → from 0 xs ≡ from 1 xs
@@ -252,19 +260,25 @@ from_one (x ∷ xs) none = step (nat_le 1 x.0) refl (from_one xs none.1)
     step true e rest = rw (all, e) (omega (arith, rest))
     step false e rest = rw (all, e) (omega (arith, rest, none.0 e))
 
-ends_high : (hi : ℕ) → (nat_le 1 hi && nat_le hi 5) ≡ true → nat_le 1 hi ≡ true
+pub ends_high : (hi : ℕ) → (nat_le 1 hi && nat_le hi 5) ≡ true → nat_le 1 hi ≡ true
 ends_high hi h = grind (arith, common_steps)
+
+-- so all are covered
+pub covered_from_above : (ats belows : List (ℕ × ℕ)) → AreNone (nat_le 1) belows → ((j : ℕ) → from (suc j) belows ≤ from (suc (suc j)) ats)
+    → AreCovered ats belows
+covered_from_above ats belows none above zero =
+    let first = above 0 in
+    let same = from_one belows none in
+    omega (arith, first, same, from_falls 1 ats)
+covered_from_above ats belows none above (suc j) = above j
 
 pub covered_all : (m : Judgements) → IsMatrix m → (on : List (ℕ × ℤ)) → AreRowMultipliers (length (threshold_problem_of m).rows) on → (ws : List ℕ) → ws
     ≡ threshold_weights m on
     → ((j : ℕ) → dot (combination (threshold_problem_of m) on).coefs (upper m.size (suc j)) ≤ℤ pos 0)
     → AreCovered (ats_of (ranges m) ws) (belows_of (ranges m) ws)
-covered_all m matrix on are ws is none zero =
-    let first = covered_above m matrix on are ws is 0 (none 0) in
-    let same = from_one (belows_of (ranges m) ws) (spread-none Below (nat_le 1) (λ r h. ends_high r.hi h) (ranges m)
-    (after_spread Zero (ranges m) (after_spread At (ranges m) ws))) in
-    omega (arith, first, same, from_falls 1 (ats_of (ranges m) ws))
-covered_all m matrix on are ws is none (suc j) = covered_above m matrix on are ws is j (none j)
+covered_all m matrix on are ws is none =
+    covered_from_above (ats_of (ranges m) ws) (belows_of (ranges m) ws) (spread-none Below (nat_le 1) (λ r h. ends_high r.hi h) (ranges m)
+    (after_spread Zero (ranges m) (after_spread At (ranges m) ws))) (λ j. covered_above m matrix on are ws is j (none j))
 
 -- ---- both combinations
 
@@ -288,7 +302,7 @@ lo_of m p q = pos (range_at m p q).lo
 abbrev less_hi : Judgements → ℕ → ℕ → ℤ
 less_hi m p q = neg_ℤ (pos (range_at m p q).hi)
 
-abbrev no_order : ℕ → ℤ
+abbrev pub no_order : ℕ → ℤ
 no_order p = pos 0
 
 own_bound : (m : Judgements) (tag : Tag) → IsTagAmong m.size tag → (row_of m tag).bound ≡ own_number (lo_of m) (less_hi m) no_flag no_order tag
@@ -319,16 +333,16 @@ same_bound m on are covered =
     ∙ sym (their_sum m on h refl are)
 
 -- the numbers of a gap
-abbrev gap_of : Judgements → ℕ → ℕ → ℕ → ℤ
+abbrev pub gap_of : Judgements → ℕ → ℕ → ℕ → ℤ
 gap_of m j p q = get_or (gap_coefs m.size p q) j (pos 0)
 
-abbrev less_gap : Judgements → ℕ → ℕ → ℕ → ℤ
+abbrev pub less_gap : Judgements → ℕ → ℕ → ℕ → ℤ
 less_gap m j p q = get_or (opposite (gap_coefs m.size p q)) j (pos 0)
 
-abbrev order_gap : Judgements → ℕ → ℕ → ℤ
+abbrev pub order_gap : Judgements → ℕ → ℕ → ℤ
 order_gap m j p = gap_of m j p (p + 1)
 
-own_coef : (m : Judgements) (j : ℕ) (tag : Tag) → IsTagAmong m.size tag
+pub own_coef : (m : Judgements) (j : ℕ) (tag : Tag) → IsTagAmong m.size tag
     → get_or (row_of m tag).coefs j (pos 0) ≡ own_number (gap_of m j) (less_gap m j) (less_gap m j) (order_gap m j) tag
 own_coef m j (Lower p q) among = refl
 own_coef m j (Zeroed p q) among = refl
@@ -382,7 +396,7 @@ no_cost m d j =
     ∙ dot-zeros (flags (suc j)) 5 in
     dot-scale d (ones ++ replicate 5 (pos 0)) (upper m.size (suc j)) ∙ ap (λ z. d *ℤ z) cost ∙ *ℤ-zero d
 
-upper_nonneg : (n j : ℕ) → AreNonNegative (upper n j)
+pub upper_nonneg : (n j : ℕ) → AreNonNegative (upper n j)
 upper_nonneg n j =
     All-append (λ x. pos 0 ≤ℤ x) (replicate (n - 1) (pos 0)) (flags j) (All-replicate (λ x. pos 0 ≤ℤ x) (n - 1) (pos 0) (≤ℤ_refl (pos 0)))
     (cons 1 (flag j 2 ∷ flag j 3 ∷ flag j 4 ∷ flag j 5 ∷ []) (cons 2 (flag j 3 ∷ flag j 4 ∷ flag j 5 ∷ []) (cons 3 (flag j 4 ∷ flag j 5 ∷ [])

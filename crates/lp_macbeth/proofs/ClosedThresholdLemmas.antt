@@ -44,7 +44,7 @@ starts_cases lo h = elim (cases_lt lo 2) [ inl l ↦ inl (at_one l) | inr g ↦ 
     high : 2 ≤ lo → nat_le 2 lo ≡ true
     high g = grind (arith, common_steps)
 
-starts_high : (lo : ℕ) → nat_le 2 lo ≡ true → nat_le 1 lo ≡ true
+pub starts_high : (lo : ℕ) → nat_le 2 lo ≡ true → nat_le 1 lo ≡ true
 starts_high lo h = grind (arith, common_steps)
 
 -- what holds where a range begins at 1 holds of all rows of the open problem where it holds of all listed ones

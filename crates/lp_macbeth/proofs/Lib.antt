@@ -30,5 +30,7 @@ pub mod WeightLemmas
 pub mod RowSumLemmas
 pub mod OwnRows
 pub mod CarryLemmas
+pub mod ClosedCarryLemmas
+pub mod ClosedCertLemmas
 pub mod TranslationLoopLemmas
 pub mod ThresholdProblemLemmas

@@ -46,7 +46,7 @@ length-lefts lo (l ∷ ls) (at ∷ ats) xs of = step (nat_le 1 at.0) refl (lengt
         let f : nat_le 1 (lo l) ≡ false = ap (nat_le 1) (sym of.0) ∙ e in
         rw (e, f) rest
 
-length-at_zero : {X : Type 0} (category : X → ℕ) (ps : List X) (xs : List (ℕ × ℕ)) → AreOf category ps xs → length (at_zero xs)
+pub length-at_zero : {X : Type 0} (category : X → ℕ) (ps : List X) (xs : List (ℕ × ℕ)) → AreOf category ps xs → length (at_zero xs)
     ≡ length (filter (λ p. category p == 0) ps)
 length-at_zero category [] [] of = refl
 length-at_zero category [] (x ∷ xs) of = absurd of
@@ -62,7 +62,7 @@ length-at_zero category (p ∷ ps) (x ∷ xs) of = step (x.0 == 0) refl (length-
         let f : (category p == 0) ≡ false = ap (λ c. c == 0) (sym of.0) ∙ e in
         rw (e, f) rest
 
-length-takings : {X T : Type 0} (lo hi : X → ℕ) (cross : X → X → T) (ps ls : List X) (ats xs : List (ℕ × ℕ)) → AreOf lo ls ats → AreOf hi ps xs
+pub length-takings : {X T : Type 0} (lo hi : X → ℕ) (cross : X → X → T) (ps ls : List X) (ats xs : List (ℕ × ℕ)) → AreOf lo ls ats → AreOf hi ps xs
     → length (takings ats xs) ≡ length (flat_map (λ l. map (cross l) (filter (λ q. nat_lt (hi q) (lo l)) ps)) ls)
 length-takings lo hi cross ps [] [] xs of own = refl
 length-takings lo hi cross ps [] (at ∷ ats) xs of own = absurd of
@@ -139,7 +139,7 @@ threshold_number a b z (BelowRow p q) = b p q
 threshold_number a b z (Step k) = pos 0
 
 -- products with numbers that are all 0
-dot-none : {X : Type 0} (ws : List ℤ) (xs : List X) → dot ws (map (λ x. pos 0) xs) ≡ pos 0
+pub dot-none : {X : Type 0} (ws : List ℤ) (xs : List X) → dot ws (map (λ x. pos 0) xs) ≡ pos 0
 dot-none [] xs = refl
 dot-none (w ∷ ws) [] = refl
 dot-none (w ∷ ws) (x ∷ xs) = ap₂ (λ a b. a +ℤ b) (*ℤ-zero w) (dot-none ws xs)

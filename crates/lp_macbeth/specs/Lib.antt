@@ -8,3 +8,4 @@ pub mod Translated
 pub mod ClosedWeighting
 pub mod RowTags
 pub mod ClosedThreshold
+pub mod ClosedTranslated

@@ -4,7 +4,7 @@ use Rattle.std.specs.Prelude.{ℕ, zero, suc, ◌-◌, ◌==◌, Bool, cond, nat
 use Rattle.judgement_matrix.specs.Range.{Bounds}
 use Rattle.judgement_matrix.specs.Matrix.{Judgements, pairs, range_at}
 use Rattle.lp_macbeth.specs.declared.kinds.Kind.{Kind}
-use Rattle.lp_macbeth.specs.declared.kinds.Kind.TheVariants.{At, Zero, Below}
+use Rattle.lp_macbeth.specs.declared.kinds.Kind.TheVariants.{At, High, Zero, Below}
 
 -- ---- the weights of rows
 
@@ -16,12 +16,14 @@ with_entries weights (e ∷ on) = with_entries (set weights e.0 (unsigned_abs e.
 -- whether a pair with this range has a row of the kind
 abbrev pub has_row : Kind → Bounds → Bool
 has_row At range = nat_le 1 range.lo
+has_row High range = nat_le 2 range.lo
 has_row Zero range = range.hi == 0
 has_row Below range = nat_le 1 range.hi && nat_le range.hi 5
 
 -- the category that such a row speaks of
 abbrev pub category_of : Kind → Bounds → ℕ
 category_of At range = range.lo
+category_of High range = range.lo
 category_of Zero range = range.hi
 category_of Below range = range.hi
 
@@ -90,3 +92,19 @@ own_weights ranges weights =
     let ats : List (ℕ × ℕ) = spread At ranges weights in
     let belows : List (ℕ × ℕ) = spread Below ranges (after_spread Zero ranges after_at) in
     lefts ats belows ++ at_zero (spread Zero ranges after_at) ++ takings ats belows
+
+-- ---- the same for a closed problem
+
+-- so many weights from the front, 0 where there are no more
+abbrev pub first_weights : ℕ → List ℕ → List ℕ
+first_weights zero weights = []
+first_weights (suc n) weights = get_or weights 0 0 ∷ first_weights n (drop 1 weights)
+
+-- the weights of a closed problem's rows, given those of its threshold form: what is left of the pairs that begin at a
+-- category is dropped, and so are the steps; the weights of so many rows behind them stay
+abbrev pub closed_weights : List Bounds → ℕ → List ℕ → List ℕ
+closed_weights ranges named weights =
+    let after_high : List ℕ = after_spread High ranges weights in
+    let after_zero : List ℕ = after_spread Zero ranges after_high in
+    at_zero (spread Zero ranges after_high) ++ takings (spread High ranges weights) (spread Below ranges after_zero)
+    ++ first_weights named (drop 4 (after_spread Below ranges after_zero))

@@ -10,6 +10,8 @@ use judgement_matrix::Range;
 pub(crate) enum Kind {
     /// The least category judged.
     At,
+    /// The least category judged, from 2 on.
+    High,
     /// No difference.
     Zero,
     /// The greatest category judged.
@@ -23,6 +25,7 @@ impl Kind {
     {
         match self {
             Kind::At => range.lo() >= 1,
+            Kind::High => range.lo() >= 2,
             Kind::Zero => range.hi() == 0,
             Kind::Below => 1 <= range.hi() && range.hi() <= 5,
         }
@@ -33,7 +36,7 @@ impl Kind {
         ensures { result ≡ category_of self range }
     {
         match self {
-            Kind::At => range.lo(),
+            Kind::At | Kind::High => range.lo(),
             Kind::Zero | Kind::Below => range.hi(),
         }
     }

@@ -3,6 +3,7 @@
 
 mod closed;
 mod closed_form;
+mod closed_translation;
 mod gap_rows;
 mod gaps;
 mod kinds;
@@ -20,6 +21,7 @@ mod weighting;
 
 pub use closed::{closed_problem, closed_problem_with};
 pub use closed_form::{closed_thresholds, closed_thresholds_with, weighting_thresholds};
+pub use closed_translation::{translate_closed, translate_weighting};
 pub use frac128::NoMemory;
 pub use gap_rows::{problem, rows};
 pub use pairs::element_pairs;

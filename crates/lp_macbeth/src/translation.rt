@@ -37,8 +37,8 @@ pub fn translate(alloc: Global, matrix: &Matrix, cert: &Cert) -> Result<Cert, No
     })
 }
 
-// The range of each pair, in pair order.
-fn ranges(alloc: Global, matrix: &Matrix) -> Result<Vec<Range>, NoMemory>
+/// The range of each pair, in pair order.
+pub(crate) fn ranges(alloc: Global, matrix: &Matrix) -> Result<Vec<Range>, NoMemory>
     ensures { IfOk result (λ ranges. ranges.items ≡ ranges_of matrix.now) }
 {
     let pairs = element_pairs(alloc, matrix.size() as u8)?;
@@ -62,8 +62,12 @@ fn ranges_of_pairs(
     Ok(ranges)
 }
 
-// A weight for each row, 0 where no entry names it.
-fn weights(alloc: Global, count: usize, on: &[(usize, i128)]) -> Result<Vec<Weight>, NoMemory>
+/// A weight for each row, 0 where no entry names it.
+pub(crate) fn weights(
+    alloc: Global,
+    count: usize,
+    on: &[(usize, i128)],
+) -> Result<Vec<Weight>, NoMemory>
     requires { AreRowMultipliers count on.now }
     ensures { IfOk result (λ weights. weights.items ≡ with_entries (replicate count 0) on.now) }
 {
@@ -108,8 +112,8 @@ fn own(alloc: Global, ranges: &[Range], weights: Vec<Weight>) -> Result<Vec<Weig
     Ok(own)
 }
 
-// For each range the category and the weight of its row of a kind, or 0 where it has none.
-fn spread(
+/// For each range the category and the weight of its row of a kind, or 0 where it has none.
+pub(crate) fn spread(
     alloc: Global,
     kind: Kind,
     ranges: &[Range],
@@ -130,8 +134,8 @@ fn spread(
     Ok(List::make(weights))
 }
 
-// Adds the weights at category 0.
-fn push_zeros(own: &mut Vec<Weight>, equals: &[(u8, Weight)]) -> Result<(), NoMemory>
+/// Adds the weights at category 0.
+pub(crate) fn push_zeros(own: &mut Vec<Weight>, equals: &[(u8, Weight)]) -> Result<(), NoMemory>
     ensures { IfOk result (λ _. own.new.items ≡ own.old.items ++ at_zero equals.now) }
 {
     for (category, weight) in equals {
@@ -142,8 +146,8 @@ fn push_zeros(own: &mut Vec<Weight>, equals: &[(u8, Weight)]) -> Result<(), NoMe
     Ok(())
 }
 
-// The weights other than 0, each with its row's position.
-fn entries(alloc: Global, weights: &[Weight]) -> Result<List<(usize, i128)>, NoMemory>
+/// The weights other than 0, each with its row's position.
+pub(crate) fn entries(alloc: Global, weights: &[Weight]) -> Result<List<(usize, i128)>, NoMemory>
     ensures { IfOk result (λ on. on ≡ entries_from 0 (map (λ w. pos w) weights.now)) }
 {
     let mut on = Vec::new(alloc);

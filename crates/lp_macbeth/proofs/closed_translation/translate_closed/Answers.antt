@@ -1,0 +1,16 @@
+use Rattle.std.proofs.Common.{◌≡◌, sym, subst, arith}
+use Rattle.std.proofs.lemmas.Result.{IfOk-weaker}
+use Rattle.frac128.specs.declared.problem.Cert.{Cert}
+use Rattle.lp_macbeth.specs.ClosedTranslated.{carried_of, IsClosedCarried}
+use Rattle.lp_macbeth.proofs.ClosedCertLemmas.{closed_entries, closed_carried}
+use Rattle.lp_macbeth.proofs.closed_translation.translate_closed.Goals as goal
+
+pub carried-requires : goal.carried-requires
+carried-requires c = record { few = omega arith; cert = closed_entries c.args.matrix.now c.args.cert.now c.requires }
+
+pub returns : goal.returns
+returns c =
+    let m = c.args.matrix.now in
+    let cert = c.args.cert.now in
+    IfOk-weaker c.carried.result (λ (carried : Cert). carried ≡ carried_of m 4 cert) (IsClosedCarried m cert)
+    (λ carried is. subst (IsClosedCarried m cert) (sym is) (closed_carried m cert c.size.ensures.matrix)) c.carried.ensures
