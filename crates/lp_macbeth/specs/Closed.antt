@@ -1,6 +1,6 @@
 -- The problem that asks for the least difference of two elements over the closure of a criterion's open scales: lists
 -- that meet the matrix in some unit of at least 0, with good and neutral 100 apart and a span of at most the reach.
-use Rattle.std.specs.Prelude.{◌≡◌, ℕ, ◌-◌, ℤ, pos, neg_ℤ, negsuc, ◌+ℤ◌, ◌*ℤ◌, ◌≤ℤ◌, List, [], ◌∷◌, ◌++◌, map, replicate, cond, nat_lt}
+use Rattle.std.specs.Prelude.{◌≡◌, ◌≢◌, ℕ, ◌≤◌, ◌-◌, ℤ, pos, neg_ℤ, negsuc, ◌+ℤ◌, ◌*ℤ◌, ◌≤ℤ◌, List, [], ◌∷◌, ◌++◌, map, replicate, cond, nat_lt}
 use Rattle.frac128.specs.Problem.{ProblemData}
 use Rattle.frac128.specs.declared.problem.Row.{Row}
 use Rattle.judgement_matrix.specs.Matrix.{Judgements}
@@ -35,6 +35,12 @@ reach_up n reach = record { coefs = gap_coefs n 1 n ++ pos 1 ∷ []; bound = pos
 
 abbrev pub reach_down : ℕ → ℕ → Row
 reach_down n reach = record { coefs = opposite (gap_coefs n 1 n) ++ negsuc 0 ∷ []; bound = neg_ℤ (pos reach) }
+
+-- two of n elements, one above the other
+pub record AreApart (n a b : ℕ) : Type 0 where
+  pub first : (1 ≤ a) × (a ≤ n)
+  pub second : (1 ≤ b) × (b ≤ n)
+  pub apart : a ≢ b
 
 -- 1 for the gaps that are not between p and q and 0 for those that are
 abbrev pub outer_coefs : ℕ → ℕ → ℕ → List ℤ

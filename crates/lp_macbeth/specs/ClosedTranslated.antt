@@ -28,20 +28,22 @@ carried_of m named cert = record {
       (with_entries (replicate (length (closed_threshold_rows m) + named) 0) cert.on)));
 }
 
--- of the threshold form of a criterion's closed problem
+-- the certificate shows something of the threshold form of a criterion's closed problem
 abbrev pub ProvesClosed : Judgements → Cert → Type 0
 ProvesClosed m cert = (good : ℕ) × ((neutral : ℕ) × ((reach : ℕ) × ((cost : List ℤ)
     × Proves (closed_thresholds_with m good neutral reach cost) cert)))
 
+-- and the other shows the same of the problem, whatever the references, the reach and the costs
 abbrev pub IsClosedCarried : Judgements → Cert → Cert → Type 0
 IsClosedCarried m cert carried = (good neutral reach : ℕ) (cost : List ℤ) → IsPair m.size good neutral
     → length cost ≡ m.size
     → Carries (closed_thresholds_with m good neutral reach cost) (closed_problem_with m good neutral reach cost) cert carried
 
--- of the threshold form of a weighting's closed problem
+-- the certificate shows something of the threshold form of a weighting's closed problem
 abbrev pub ProvesWeighting : Judgements → Cert → Type 0
 ProvesWeighting m cert = (cost : List ℤ) × Proves (weighting_thresholds_of m cost) cert
 
+-- and the other shows the same of the problem, whatever the costs
 abbrev pub IsWeightingCarried : Judgements → Cert → Cert → Type 0
 IsWeightingCarried m cert carried = (cost : List ℤ) → length cost ≡ m.size - 1
     → Carries (weighting_thresholds_of m cost) (weighting_problem_of m cost) cert carried

@@ -1,6 +1,6 @@
 //! What the definitions in the contracts amount to: functions that do nothing, whose contracts are the laws.
 
-ghost use Rattle.std.specs.Prelude.{◌≡◌, ◌≤◌, ◌<◌, ◌-◌, ◌↔◌, ◌++◌, ◌∷◌, [], List, ℤ, pos, ◌+ℤ◌, ◌*ℤ◌, ◌≤ℤ◌, ◌<ℤ◌, length, take, Ok};
+ghost use Rattle.std.specs.Prelude.{◌≡◌, ℕ, ◌≤◌, ◌<◌, ◌-◌, ◌↔◌, ◌++◌, ◌∷◌, [], List, ℤ, pos, ◌+ℤ◌, ◌*ℤ◌, ◌≤ℤ◌, ◌<ℤ◌, length, take, Ok};
 ghost use Rattle.frac128.specs.Problem.{IsFeasible, IsInfeasible, IsLeast, cost_and_numbers, cost_at};
 ghost use Rattle.frac128.specs.Range.{IsInRange};
 ghost use Rattle.integers.specs.Fraction.{IsWriting, SameFraction, fraction_of};
@@ -8,10 +8,10 @@ ghost use Rattle.integers.specs.Lexicographic.{LexLess};
 ghost use Rattle.judgement_matrix.specs.Least.{IsSmaller, IsLeastScale};
 ghost use Rattle.judgement_matrix.specs.Matrix.{IsPair};
 ghost use Rattle.judgement_matrix.specs.Scale.{difference, IsScale, IsMetInUnit, IsMetBy, IsInconsistent};
-ghost use Rattle.lp_macbeth.specs.Closed.{closed_problem_with, closed_problem_of, IsClosedScale};
+ghost use Rattle.lp_macbeth.specs.Closed.{closed_cost, closed_problem_with, closed_problem_of, AreApart, IsClosedScale};
 ghost use Rattle.integers.specs.Vector.{dot};
 ghost use Rattle.integers.specs.Counting.{IsOrder};
-ghost use Rattle.lp_macbeth.specs.ClosedThreshold.{closed_thresholds_with, weighting_thresholds_of, IsThresholdForm};
+ghost use Rattle.lp_macbeth.specs.ClosedThreshold.{closed_thresholds_with, closed_thresholds_of, weighting_thresholds_of, IsThresholdForm};
 ghost use Rattle.lp_macbeth.specs.ClosedWeighting.{checked_weighting, weighting_problem_of, weights_of, in_order, IsClosedWeighting, IsLeastOf, AreCostNumbers, weighted_gap};
 ghost use Rattle.lp_macbeth.specs.Gaps.{scale_of, gaps_of};
 ghost use Rattle.lp_macbeth.specs.Rows.{problem_of};
@@ -163,30 +163,30 @@ pub fn costs_are_weighted_gaps(
 }
 
 /// States that the threshold form of a criterion's closed problem has the same points, cut to the gaps and the room, the same values
-/// and the same least point, whatever the costs. It does nothing.
-pub fn closed_thresholds_are_enough(
-    matrix: &Matrix,
-    good: usize,
-    neutral: usize,
-    reach: u32,
-    cost: &[i128],
-)
-    requires references { IsPair matrix.now.size good neutral }
-    requires one_each { length cost.now ≡ matrix.now.size }
-    ensures { IsThresholdForm (closed_problem_with matrix.now good neutral reach cost.now)
-        (closed_thresholds_with matrix.now good neutral reach cost.now) }
+/// and the same least point: whatever the costs, one for each variable, as where the difference of two elements costs. It does
+/// nothing.
+pub fn closed_thresholds_are_enough(matrix: &Matrix, good: usize, neutral: usize, reach: u32)
+    requires { IsPair matrix.now.size good neutral }
+    ensures costs { (cost : List ℤ) → length cost ≡ matrix.now.size
+        → IsThresholdForm (closed_problem_with matrix.now good neutral reach cost)
+        (closed_thresholds_with matrix.now good neutral reach cost) }
+    ensures difference { (a b : ℕ) → AreApart matrix.now.size a b
+        → IsThresholdForm (closed_problem_of matrix.now good neutral reach a b)
+        (closed_thresholds_of matrix.now good neutral reach a b) }
+    ensures one_each { (a b : ℕ) → AreApart matrix.now.size a b
+        → length (closed_cost matrix.now.size a b) ≡ matrix.now.size }
 {
     // The fact that every matrix keeps is told where its size is read.
     matrix.size();
 }
 
 /// States that the threshold form of a weighting's closed problem has the same points, cut to the gaps, the same values and the same
-/// least point, whatever the costs. It does nothing.
-pub fn weighting_thresholds_are_enough(matrix: &Matrix, cost: &[i128])
-    requires size { 2 ≤ matrix.now.size }
-    requires one_each { length cost.now ≡ matrix.now.size - 1 }
-    ensures { IsThresholdForm (weighting_problem_of matrix.now cost.now)
-        (weighting_thresholds_of matrix.now cost.now) }
+/// least point, whatever the costs, one for each gap. It does nothing.
+pub fn weighting_thresholds_are_enough(matrix: &Matrix)
+    requires { 2 ≤ matrix.now.size }
+    ensures { (cost : List ℤ) → length cost ≡ matrix.now.size - 1
+        → IsThresholdForm (weighting_problem_of matrix.now cost)
+        (weighting_thresholds_of matrix.now cost) }
 {
     // The fact that every matrix keeps is told where its size is read.
     matrix.size();
