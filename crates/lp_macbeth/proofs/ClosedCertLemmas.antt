@@ -70,8 +70,8 @@ form_count m further cost named =
     ∙ ap₂ (λ a b. a + b) (length-map (closed_threshold_rows m) (closed_threshold_row_of m further)) (length-map named with_thresholds)
 
 -- sums over the rows that entries name are sums over all rows
-their_sum : (m : Judgements) (further : ℕ) (cost : List ℤ) (named : List Row) (on : List (ℕ × ℤ)) (h : Row → ℤ) → h (record { coefs = []; bound = pos 0 }) ≡ pos 0
-    → AreRowMultipliers (length (threshold_form_of m further cost named).rows) on
+their_sum : (m : Judgements) (further : ℕ) (cost : List ℤ) (named : List Row) (on : List (ℕ × ℤ)) (h : Row → ℤ)
+    → h (record { coefs = []; bound = pos 0 }) ≡ pos 0 → AreRowMultipliers (length (threshold_form_of m further cost named).rows) on
     → dot (multipliers on) (map h (rows_on (threshold_form_of m further cost named).rows on))
     ≡ dot (whole (form_weights m (length named) on))
     (map h (map (closed_threshold_row_of m further) (closed_threshold_rows m)) ++ map h (map with_thresholds named))
@@ -175,7 +175,8 @@ covered_above : (m : Judgements) (further : ℕ) (cost : List ℤ) (named : List
     → All (λ (row : Row). length row.coefs ≡ m.size - 1 + further) named → (on : List (ℕ × ℤ))
     → AreRowMultipliers (length (threshold_form_of m further cost named).rows) on → (j : ℕ)
     → dot (combination (threshold_form_of m further cost named) on).coefs (beyond (m.size - 1 + further) (suc j)) ≤ℤ pos 0
-    → from (suc j) (closed_belows_of (ranges m) (form_weights m (length named) on)) ≤ from (suc (suc j)) (highs_of (ranges m) (form_weights m (length named) on))
+    → from (suc j) (closed_belows_of (ranges m) (form_weights m (length named) on))
+    ≤ from (suc (suc j)) (highs_of (ranges m) (form_weights m (length named) on))
 covered_above m further cost named matrix long on are j low =
     let v : ℕ = m.size - 1 + further in
     let u : List ℤ = beyond v (suc j) in
@@ -188,7 +189,8 @@ covered_above m further cost named matrix long on are j low =
     let sum : dot (combination (threshold_form_of m further cost named) on).coefs u ≡ dot (whole ws) (map h (map R tags) ++ map h (map with_thresholds named)) =
     combination-dot (threshold_form_of m further cost named) on u ∙ their_sum m further cost named on h refl are in
     let first : AreAtMost (map g tags) (map h (map R tags)) =
-    rows_at_least R h g (IsThresholdTagOf m) (λ tag of. subst (λ z. g tag ≤ℤ z) (sym (flags_same m further (suc j) tag matrix of)) (tag_flags m matrix j tag of)) tags
+    rows_at_least R h g (IsThresholdTagOf m)
+    (λ tag of. subst (λ z. g tag ≤ℤ z) (sym (flags_same m further (suc j) tag matrix of)) (tag_flags m matrix j tag of)) tags
     (All-closed_threshold_rows m) in
     let second : AreAtMost none (map h (map with_thresholds named)) =
     rows_at_least with_thresholds h (λ (row : Row). pos 0) (λ (row : Row). length row.coefs ≡ v)
@@ -256,7 +258,8 @@ form_sum : (m : Judgements) (further : ℕ) (cost : List ℤ) (named : List Row)
 form_sum m further cost named on h g none keeps same are =
     their_sum m further cost named on h none are
     ∙ ap₂ (λ us vs. dot (whole (form_weights m (length named) on)) (us ++ vs))
-    (rows_are (closed_threshold_row_of m further) h g (IsThresholdTagOf m) same (closed_threshold_rows m) (All-closed_threshold_rows m)) (named_same h keeps named)
+    (rows_are (closed_threshold_row_of m further) h g (IsThresholdTagOf m) same (closed_threshold_rows m) (All-closed_threshold_rows m))
+    (named_same h keeps named)
 
 -- where steps count nothing, the sum over own rows and what is left is that over the form's
 both_sums : (m : Judgements) (a b z : ℕ → ℕ → ℤ) (o : ℕ → ℤ) (ws : List ℕ) (count : ℕ) (us : List ℤ) → length us ≡ count
@@ -445,7 +448,8 @@ carries_is m further named p R matrix is has cert = record { den = refl; span = 
         }
 
 -- the certificate that is carried, its parts written otherwise
-pub carried_is : (m : Judgements) (count : ℕ) (cert : Cert) (den : ℤ) (on : List (ℕ × ℤ)) → den ≡ cert.den → on ≡ entries_from 0 (closed_numbers m count cert.on)
+pub carried_is : (m : Judgements) (count : ℕ) (cert : Cert) (den : ℤ) (on : List (ℕ × ℤ)) → den ≡ cert.den
+    → on ≡ entries_from 0 (closed_numbers m count cert.on)
     → record { den = den; on = on } ≡ carried_of m count cert
 carried_is m count cert den on same_den same_on = ap₂ (λ (d : ℤ) (o : List (ℕ × ℤ)). record { den = d; on = o }) same_den same_on
 

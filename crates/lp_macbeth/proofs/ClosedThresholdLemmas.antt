@@ -216,7 +216,8 @@ closed_form_is m further named p matrix two is = form_from_points p q 5 refl is.
     parts y t n long five h =
         let each : length y ≡ k + further = long ∙ is.vars in
         let signs = (All-parts (λ c. pos 0 ≤ℤ c) y t).0 h.nonneg in
-        let all = (All-parts (IsRowMetBy (y ++ t) n) (map (closed_threshold_row_of m further) (closed_threshold_rows m)) (map with_thresholds named)).0 h.meets in
+        let all = (All-parts (IsRowMetBy (y ++ t) n) (map (closed_threshold_row_of m further) (closed_threshold_rows m))
+        (map with_thresholds named)).0 h.meets in
         let first : suc (length (take k y)) ≡ m.size = omega (arith, length-take k y, each, two) in
         let low = front_nonneg y signs.0 in
         let apart = (pairs_apart m further y t n matrix two each five low).0 all.0 in

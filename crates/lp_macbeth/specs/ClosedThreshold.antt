@@ -1,5 +1,5 @@
--- The threshold form of a closed problem, of a criterion or of a weighting: five thresholds stand between the categories,
--- so that each pair is compared with them in place of all other pairs, as in the open problem, but in unit 0.
+-- The threshold form of a closed problem, of a criterion or of a weighting: five thresholds stand between the
+-- categories, so that each pair is compared with them in place of all other pairs, as in the open problem, but in unit 0.
 use Rattle.std.specs.Prelude.{◌≡◌, ◌↔◌, ℕ, ◌+◌, ◌-◌, ℤ, pos, List, ◌++◌, map, filter, replicate, take, drop, nat_le}
 use Rattle.frac128.specs.Problem.{ProblemData, IsFeasible, IsInfeasible, IsLeast, cost_at}
 use Rattle.frac128.specs.declared.problem.Row.{Row}
@@ -16,11 +16,11 @@ use Rattle.lp_macbeth.specs.Threshold.{equal_rows_of, below_rows_of, step_rows, 
 abbrev pub high_rows_of : Judgements → List (ℕ × ℕ) → List ThresholdTag
 high_rows_of m ps = map (λ pair. At pair.0 pair.1) (filter (λ pair. nat_le 2 (range_at m pair.0 pair.1).lo) ps)
 
--- the rows of pairs and thresholds in order: those of the open problem but where a range begins at 1, which in unit 0 asks
--- for nothing
+-- the rows of pairs and thresholds in order: those of the open problem but where a range begins at 1, which in unit 0
+-- asks for nothing
 abbrev pub closed_threshold_rows : Judgements → List ThresholdTag
-closed_threshold_rows m = high_rows_of m (pairs m.size) ++ equal_rows_of m (pairs m.size) ++ below_rows_of m (pairs m.size)
-    ++ step_rows
+closed_threshold_rows m = high_rows_of m (pairs m.size) ++ equal_rows_of m (pairs m.size)
+    ++ below_rows_of m (pairs m.size) ++ step_rows
 
 -- the constraint of a tag in unit 0, with so many further variables between the gaps and the thresholds
 abbrev pub closed_threshold_row_of : Judgements → ℕ → ThresholdTag → Row
@@ -61,7 +61,8 @@ weighting_thresholds_of m cost = threshold_form_of m 0 cost (sum_rows (m.size - 
 -- ---- what they mean
 
 -- the form has thresholds beside the problem's variables: cut to these its points are the problem's, each of which has
--- thresholds, its values are the problem's, its least point is the problem's, and it has a point where the problem has one
+-- thresholds, its values are the problem's, its least point is the problem's, and it has a point where the problem has
+-- one
 pub record IsThresholdForm (problem form : ProblemData) : Type 0 where
   pub cut : (z : List ℤ) (n : ℤ) → IsFeasible form z n → IsFeasible problem (take problem.vars z) n
   pub extended : (x : List ℤ) (n : ℤ) → IsFeasible problem x n → (t : List ℤ) × IsFeasible form (x ++ t) n

@@ -37,7 +37,8 @@ ProvesClosed m cert = (good : ℕ) × ((neutral : ℕ) × ((reach : ℕ) × ((co
 abbrev pub IsClosedCarried : Judgements → Cert → Cert → Type 0
 IsClosedCarried m cert carried = (good neutral reach : ℕ) (cost : List ℤ) → IsPair m.size good neutral
     → length cost ≡ m.size
-    → Carries (closed_thresholds_with m good neutral reach cost) (closed_problem_with m good neutral reach cost) cert carried
+    → Carries (closed_thresholds_with m good neutral reach cost) (closed_problem_with m good neutral reach cost) cert
+    carried
 
 -- the certificate shows something of the threshold form of a weighting's closed problem
 abbrev pub ProvesWeighting : Judgements → Cert → Type 0
