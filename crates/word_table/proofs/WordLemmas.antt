@@ -1,7 +1,6 @@
 -- Where a word stands among words of which no two are equal.
 use Rattle.std.proofs.Common.{◌≡◌, ℕ, zero, suc, ◌+◌, ◌<◌, ◌↔◌, arith, take, get_or, slice_get, Bool, true, false, not, ◌&&◌, ◌||◌, cond, List, [], ◌∷◌, length, map, position, Option, None, Some, is_some, nat_lt, refl, sym, ap, subst, ◌∙◌}
 use Rattle.std.specs.List.{IsDistinct, AllByRecursion, list_any, list_all, prefix_len}
-use Rattle.std.specs.Option.{SomeIff, IsSome}
 use Rattle.std.specs.Str.{bytes_eq}
 use Rattle.std.specs.Cmp.Lexicographic.{nat_list_eq_equiv, bytes_decides}
 use Rattle.std.proofs.lemmas.Grind.{common_steps}
@@ -133,11 +132,6 @@ pub test_by_apart : (words : List (List ℕ)) → AreApart words → are_apart w
 unfolding IsDistinct
 test_by_apart [] h = refl
 test_by_apart (x ∷ xs) h = ap (λ b. b && are_apart xs) (not_equal x xs h.0) ∙ test_by_apart xs h.1
-
--- a check of words that are apart succeeds
-pub checked : {W : Type 0} (r : Option W) (words : List (List ℕ)) (v : W) → are_apart words ≡ true → SomeIff r (AreApart words) v → IsSome r
-checked None words v h is = absurd (is (apart_by_test words h))
-checked (Some w) words v h is = refl
 
 -- a step of the check: whether the next word is among those before it
 module _ {A : Type 0} (f : A → List ℕ) (xs : List A) (i : ℕ) (d : A) (within : i < length xs) (bytes : List ℕ) (is : bytes ≡ f (get_or xs i d)) (r : Option ℕ)

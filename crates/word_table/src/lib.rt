@@ -1,6 +1,7 @@
 //! Tables of words, each found by its bytes, and the tables of this program.
 #![tactic(auto)]
 
+pub mod laws;
 mod tables;
 mod words;
 

@@ -100,19 +100,19 @@ pub const REFUSALS: [&str; 33] = [
 pub fn commands() -> Words<'static, 41>
     ensures { result ≡ map (λ word. word.now) COMMANDS }
 {
-    Words::check(&COMMANDS).unwrap()
+    Words::of_apart(&COMMANDS)
 }
 
 /// The words of the categories: category c at place c.
 pub fn categories() -> Words<'static, 7>
     ensures { result ≡ map (λ word. word.now) CATEGORIES }
 {
-    Words::check(&CATEGORIES).unwrap()
+    Words::of_apart(&CATEGORIES)
 }
 
 /// The texts of the refusals: refusal k at place k - 1.
 pub fn refusals() -> Words<'static, 33>
     ensures { result ≡ map (λ word. word.now) REFUSALS }
 {
-    Words::check(&REFUSALS).unwrap()
+    Words::of_apart(&REFUSALS)
 }

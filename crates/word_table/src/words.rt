@@ -38,6 +38,16 @@ impl<'a, const N: usize> Words<'a, N> {
         Some(Words { words })
     }
 
+    // The table of words of which no two are equal: nothing is compared.
+    pub(crate) fn of_apart(words: &'a [&'a str]) -> Words<'a, N>
+        requires most { N ≤ 64 }
+        requires each { length words.now ≡ N }
+        requires apart { AreApart (map (λ word. word.now) words.now) }
+        ensures { result ≡ map (λ word. word.now) words.now }
+    {
+        Words { words }
+    }
+
     /// The place of the word with these bytes.
     pub fn find(&self, bytes: &[u8]) -> Option<usize>
         ensures place { result ≡ find_word self.now bytes.now }

@@ -1,6 +1,6 @@
-use Rattle.std.proofs.Common.{refl}
-use Rattle.word_table.proofs.WordLemmas.{checked}
+use Rattle.std.proofs.Common.{refl, arith}
+use Rattle.word_table.proofs.WordLemmas.{apart_by_test}
 use Rattle.word_table.proofs.tables.categories.Goals as goal
 
-pub unwrap-requires : goal.unwrap-requires
-unwrap-requires c = checked _ _ _ refl c.check.ensures
+pub of_apart-requires : goal.of_apart-requires
+of_apart-requires c = (omega arith, (omega arith, (refl, apart_by_test _ refl)))
