@@ -1,8 +1,10 @@
 //! What the definitions of readings amount to: functions that do nothing, whose contracts are the laws.
-ghost use Rattle.std.specs.Prelude.{◌≡◌, ◌≤◌, ◌↔◌, ◌⊎◌, ◌∷◌, [], ℕ, List, true, MatchOption};
+ghost use Rattle.std.specs.Prelude.{◌≡◌, ◌≤◌, ◌↔◌, ◌⊎◌, ◌∷◌, [], ℕ, List, Some, true, MatchOption};
+ghost use Rattle.std.specs.List.{AllByRecursion};
 ghost use Rattle.std.specs.Option.{option_map_or};
 ghost use Rattle.std.specs.Str.{is_utf8};
 ghost use Rattle.command_read.specs.Words.{first_word, words};
+ghost use Rattle.command_read.specs.Verbs.{verb_of, verb_words};
 ghost use Rattle.command_read.specs.Reading.{is_comment, command_of, IsBlockWord, takes_block};
 ghost use Rattle.command_read.specs.declared.block.Held.{Held};
 ghost use Rattle.command_read.specs.declared.command.Parsed.TheVariants as parsed;
@@ -26,4 +28,9 @@ pub fn lines_with_blocks()
 pub fn words_in_order()
     ensures { (line : List ℕ)
         → words line ≡ option_map_or (λ word. word.0 ∷ words word.1) (first_word line) [] }
+{}
+
+/// States which command each word stands for. It does nothing.
+pub fn words_of_verbs()
+    ensures { AllByRecursion (λ entry. verb_of entry.0 ≡ Some entry.1) verb_words }
 {}
