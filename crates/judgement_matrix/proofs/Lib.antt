@@ -14,3 +14,5 @@ pub mod ScaleLemmas
 pub mod ShiftLemmas
 pub mod KeptMatrices
 pub mod MixLemmas
+pub mod LawfulLemmas
+pub mod ShiftOrder

@@ -8,3 +8,4 @@ pub mod Values
 pub mod Walk
 pub mod Least
 pub mod Repair
+pub mod SameShift

@@ -1,10 +1,10 @@
 -- Shifts of judgements, and those that make a matrix consistent (this project's own).
-use Rattle.std.specs.Prelude.{◌≡◌, ℕ, ◌+◌, ◌<◌, ◌≤◌, ℤ, pos, ◌+ℤ◌, ◌≤ℤ◌, unsigned_abs, Bool, false, List, [], ◌∷◌, ⊤}
+use Rattle.std.specs.Prelude.{◌≡◌, ◌⊎◌, ℕ, ◌+◌, ◌<◌, ◌≤◌, ℤ, pos, ◌+ℤ◌, ◌≤ℤ◌, unsigned_abs, Bool, false, List, [], ◌∷◌, ⊤, slice_index_or}
 use Rattle.std.specs.Cmp.Lexicographic.{slice_cmp}
 use Rattle.std.specs.Ordering.{int_cmp}
 use Rattle.std.specs.declared.cmp.Ordering.TheVariants.{Less}
 use Rattle.judgement_matrix.specs.Range.{Bounds, bounds}
-use Rattle.judgement_matrix.specs.Matrix.{Judgements}
+use Rattle.judgement_matrix.specs.Matrix.{Judgements, place}
 use Rattle.judgement_matrix.specs.Scale.{IsConsistent}
 
 -- a cell may be moved so: an unjudged one not at all, the range stays within 0 to 6, and one of several categories from 1 on or above
@@ -25,6 +25,21 @@ AreLawfulSteps (cell ∷ cells) (step ∷ steps) = IsLawfulStep cell step × Are
 -- a shift has one number for each pair, in pair order
 abbrev pub IsLawfulShift : Judgements → List ℤ → Type 0
 IsLawfulShift m shift = AreLawfulSteps m.cells shift
+
+-- by how much a shift moves a pair
+abbrev pub step_at : Judgements → List ℤ → ℕ → ℕ → ℤ
+step_at m shift p q = slice_index_or shift (place m.size p q) (pos 0)
+
+-- a step goes as far as another at most, and no other way
+abbrev pub IsStepBetween : ℤ → ℤ → Type 0
+IsStepBetween step other = ((pos 0 ≤ℤ step) × (step ≤ℤ other)) ⊎ ((other ≤ℤ step) × (step ≤ℤ pos 0))
+
+-- pair by pair a shift lies between no shift and another
+abbrev pub IsBetween : List ℤ → List ℤ → Type 0
+IsBetween [] [] = ⊤
+IsBetween [] (other ∷ others) = ⊥
+IsBetween (step ∷ steps) [] = ⊥
+IsBetween (step ∷ steps) (other ∷ others) = IsStepBetween step other × IsBetween steps others
 
 -- a category moved by a step that leaves it at 0 or above
 abbrev pub moved : ℕ → ℤ → ℕ

@@ -1,22 +1,24 @@
 //! What the definitions in the contracts amount to: functions that do nothing, whose contracts are the laws.
 
-ghost use Rattle.std.specs.Prelude.{◌≡◌, ◌⊎◌, ℕ, ◌+◌, ◌-◌, ◌≤◌, ◌↔◌, true, false, IsTrue, length, replicate, slice_get, Some, List, ℤ, pos, ◌+ℤ◌, ◌*ℤ◌, ◌≤ℤ◌, ◌<ℤ◌};
+ghost use Rattle.std.specs.Prelude.{◌≡◌, ◌≢◌, ◌⊎◌, ℕ, ◌+◌, ◌-◌, ◌<◌, ◌≤◌, ◌↔◌, true, false, IsTrue, length, replicate, slice_get, Some, List, ◌∷◌, ◌++◌, ℤ, pos, ◌+ℤ◌, ◌-ℤ◌, ◌*ℤ◌, ◌≤ℤ◌, ◌<ℤ◌};
 ghost use Rattle.std.specs.List.{AllByRecursion};
 ghost use Rattle.integers.specs.Fraction.{Fraction, AreFractions, over, SameFractions};
 ghost use Rattle.integers.specs.Vector.{scale, add};
 ghost use Rattle.judgement_matrix.specs.declared.matrix.TheConstants.{LIMIT};
 ghost use Rattle.judgement_matrix.specs.Range.{full};
-ghost use Rattle.judgement_matrix.specs.Matrix.{IsPair, pairs, pairs_before, place, cell_at, unjudged, judged, cleared};
+ghost use Rattle.judgement_matrix.specs.Matrix.{IsMatrix, IsPair, pairs, pairs_before, place, cell_at, range_at, unjudged, judged, cleared};
 ghost use Rattle.judgement_matrix.specs.Same.{same_judgements};
+ghost use Rattle.judgement_matrix.specs.SameShift.{same_shift};
 ghost use Rattle.judgement_matrix.specs.Change.{grown, grown_cell, without, left_cell};
 ghost use Rattle.judgement_matrix.specs.Scale.{value_at, IsScale, IsMetInUnit, IsMetBy, IsConsistent};
 ghost use Rattle.judgement_matrix.specs.Rows.{RowHolds, rows, IsFit};
 ghost use Rattle.judgement_matrix.specs.Values.{AreValues, IsAnswer};
 ghost use Rattle.judgement_matrix.specs.Least.{IsSmaller, IsLeastScale};
-ghost use Rattle.judgement_matrix.specs.Repair.{IsLawfulShift, shifted, shift_total, IsRepair, IsLeastRepair, IsNearShift, IsShiftBefore};
+ghost use Rattle.judgement_matrix.specs.Repair.{IsLawfulStep, IsLawfulShift, IsBetween, step_at, shifted, shift_total, IsRepair, IsLeastRepair, IsNearShift, IsShiftBefore};
 
 use crate::matrix::Matrix;
 use crate::range::Range;
+use crate::shift::Shift;
 use crate::tag::Fit;
 use frac128::TooWide;
 
@@ -80,6 +82,11 @@ pub fn pairs_left(matrix: &Matrix, element: usize, p: usize, q: usize)
 /// States that matrices are equal by `==` exactly where their judgements are the same. It does nothing.
 pub fn equal_matrices(first: &Matrix, second: &Matrix)
     ensures { IsTrue (same_judgements first.now second.now) ↔ (first.now ≡ second.now) }
+{}
+
+/// States that shifts are equal by `==` exactly where their numbers are the same. It does nothing.
+pub fn equal_shifts(first: &Shift, second: &Shift)
+    ensures { IsTrue (same_shift first.now second.now) ↔ (first.now ≡ second.now) }
 {}
 
 /// States that the constraints hold exactly where all rows do, in any unit of at least 0. It does nothing.
@@ -147,6 +154,58 @@ pub fn no_shift(matrix: &Matrix)
     // What a matrix keeps is told by its size.
     prove!(matrix.size() >= 1);
 }
+
+/// States what a lawful shift does to a pair: both ends of its range move by the pair's number, which is 0 where nothing was
+/// judged; what was judged stays judged; several categories from 1 on or above still are. It does nothing.
+pub fn pairs_after_a_shift(matrix: &Matrix, p: usize, q: usize)
+    requires { IsPair matrix.now.size p q }
+    ensures lo { (s : List ℤ) → IsLawfulShift matrix.now s
+        → pos (range_at (shifted matrix.now s) p q).lo ≡ pos (range_at matrix.now p q).lo +ℤ step_at matrix.now s p q }
+    ensures hi { (s : List ℤ) → IsLawfulShift matrix.now s
+        → pos (range_at (shifted matrix.now s) p q).hi ≡ pos (range_at matrix.now p q).hi +ℤ step_at matrix.now s p q }
+    ensures judged { (s : List ℤ) → IsLawfulShift matrix.now s
+        → (cell_at (shifted matrix.now s) p q).1 ≡ (cell_at matrix.now p q).1 }
+    ensures unjudged { (s : List ℤ) → IsLawfulShift matrix.now s
+        → (cell_at matrix.now p q).1 ≡ false → step_at matrix.now s p q ≡ pos 0 }
+    ensures positive { (s : List ℤ) → IsLawfulShift matrix.now s
+        → 1 ≤ (range_at matrix.now p q).lo → (range_at matrix.now p q).lo < (range_at matrix.now p q).hi
+        → 1 ≤ (range_at (shifted matrix.now s) p q).lo }
+{
+    // What a matrix keeps is told by its size.
+    prove!(matrix.size() >= 1);
+}
+
+/// States that a lawful shift leaves a matrix, and that what lies between no shift and a lawful one is lawful. It does
+/// nothing.
+pub fn lawful_shifts(matrix: &Matrix)
+    ensures matrix { (s : List ℤ) → IsLawfulShift matrix.now s → IsMatrix (shifted matrix.now s) }
+    ensures between { (s t : List ℤ) → IsLawfulShift matrix.now t → IsBetween s t → IsLawfulShift matrix.now s }
+{
+    // What a matrix keeps is told by its size.
+    prove!(matrix.size() >= 1);
+}
+
+/// States that a judged range may be moved onto each range of as many categories, but several that begin at 1 or above only
+/// onto such as do. It does nothing.
+pub fn ranges_within_reach(from: Range, to: Range)
+    requires as_many { from.lo + to.hi ≡ to.lo + from.hi }
+    requires above { 1 ≤ from.lo → from.lo < from.hi → 1 ≤ to.lo }
+    ensures { IsLawfulStep (from, true) (pos to.lo -ℤ pos from.lo) }
+{
+    // What a range keeps is told where it is read.
+    prove!(from.lo() <= 6);
+    prove!(to.hi() <= 6);
+}
+
+/// States that shifts are ordered, of which none stands before itself (`repairs`): what stands before one that stands before
+/// another is before that, and of two shifts one stands before the other or they are one. The first number that differs
+/// decides, the less one first. It does nothing.
+pub fn shifts_are_ordered()
+    ensures transitive { (s t u : List ℤ) → IsShiftBefore s t → IsShiftBefore t u → IsShiftBefore s u }
+    ensures total { (s t : List ℤ) → IsShiftBefore s t ⊎ ((s ≡ t) ⊎ IsShiftBefore t s) }
+    ensures first { (front s t : List ℤ) (a b : ℤ) → a ≢ b
+        → IsShiftBefore (front ++ a ∷ s) (front ++ b ∷ t) ↔ (a <ℤ b) }
+{}
 
 /// States that least repairs move by the same in all, that they are near where that is at most 4, that a matrix which some
 /// scale meets is repaired by no shift, and that no shift stands before itself. It does nothing.

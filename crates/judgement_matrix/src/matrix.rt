@@ -1,14 +1,16 @@
 //! Matrices of judgements.
-ghost use Rattle.std.specs.Prelude.{◌≡◌, ℕ, true, ◌-◌, ◌<◌, ◌≤◌, false, length, IfOk, OnOk, OnErr, ◌+◌};
+ghost use Rattle.std.specs.Prelude.{◌≡◌, All, ℕ, true, ◌-◌, ◌<◌, ◌≤◌, false, length, IfOk, OnOk, OnErr, ◌+◌, pos, ◌+ℤ◌, ◌≤ℤ◌};
 ghost use Rattle.judgement_matrix.specs.Range.{IsRange, full};
-ghost use Rattle.judgement_matrix.specs.Matrix.{IsMatrix, IsSize, IsPair, pairs, pairs_before, place, cell_at, unjudged, judged, cleared};
+ghost use Rattle.judgement_matrix.specs.Matrix.{IsCell, IsMatrix, IsSize, IsPair, pairs, pairs_before, place, cell_at, unjudged, judged, cleared};
 ghost use Rattle.judgement_matrix.specs.Change.{grown_from, grown, grown_cell, without_from, without};
+ghost use Rattle.judgement_matrix.specs.Repair.{IsLawfulStep, AreLawfulSteps, IsLawfulShift, moved, moved_cell, moved_cells, shifted};
 ghost use Rattle.std.specs.Cmp.{partial_equiv_from_equiv};
 ghost use Rattle.judgement_matrix.specs.Same.{same_judgements, same_judgements_are_equivalent};
 ghost use Rattle.judgement_matrix.specs.declared.matrix.TheConstants.{LIMIT};
 
 use crate::pairs::Pairs;
 use crate::range::Range;
+use crate::shift::Shift;
 pub use std::alloc::AllocError as NoMemory;
 use std::alloc::Global;
 use std::cmp::Ordering;
@@ -92,6 +94,38 @@ fn drop_element(cells: &mut Vec<(Range, bool)>, size: u8, p: usize)
         place += 1;
     }
     cells.truncate(place);
+}
+
+// A category moved by a step that leaves it a category.
+fn moved(category: u8, by: i8) -> u8
+    requires least { pos 0 ≤ℤ (pos category +ℤ by) }
+    requires most { (pos category +ℤ by) ≤ℤ pos 6 }
+    ensures value { result ≡ moved category by }
+    ensures number { pos result ≡ pos category +ℤ by }
+{
+    (i16::from(category) + i16::from(by)) as u8
+}
+
+// A cell moved by a step.
+fn moved_cell(cell: (Range, bool), by: i8) -> (Range, bool)
+    requires { IsLawfulStep cell by }
+    ensures { result ≡ moved_cell cell by }
+{
+    let (range, is_judged) = cell;
+    let lo = moved(range.lo, by);
+    let hi = moved(range.hi, by);
+    (Range { lo, hi }, is_judged)
+}
+
+// Moves each cell by its step.
+fn move_cells(cells: &mut Vec<(Range, bool)>, steps: &[i8])
+    requires cells { All IsCell cells.old.items }
+    requires lawful { AreLawfulSteps cells.old.items steps.now }
+    ensures { cells.new.items ≡ moved_cells cells.old.items steps.now }
+{
+    for (place, by) in steps.iter().enumerate() {
+        cells[place] = moved_cell(cells[place], *by);
+    }
 }
 
 impl Matrix {
@@ -202,6 +236,24 @@ impl Matrix {
             size: self.size,
             cells: self.cells.clone()?,
         })
+    }
+
+    /// The judgements after a shift.
+    pub fn shifted(&self, shift: &Shift) -> Result<Matrix, NoMemory>
+        requires { IsLawfulShift self.now shift.now.by }
+        ensures { IfOk result (λ matrix. matrix ≡ shifted self.now shift.now.by) }
+    {
+        let mut after = self.copy()?;
+        after.move_by(shift.by.as_slice());
+        Ok(after)
+    }
+
+    // Moves the range of each pair by its step.
+    fn move_by(&mut self, steps: &[i8])
+        requires { IsLawfulShift self.old steps.now }
+        ensures { self.new ≡ shifted self.old steps.now }
+    {
+        move_cells(&mut self.cells, steps);
     }
 
     /// The pairs of elements, in pair order.
