@@ -1,10 +1,10 @@
 //! Solves linear problems, finds the basic scales of matrices and makes their problems, one a line of the input. A line of a
 //! problem is a name, the number of variables, the costs, and each row's coefficients with its bound last; that of a matrix a
 //! name, the word `matrix`, the number of elements, and for each judged pair its elements and its lowest and highest category.
-//! The word `problem` or `threshold` in its place asks for that problem of the matrix, made and not solved. It writes a line for
-//! each: the name, how many variables and rows or elements and judged pairs, the end, the pivots or how many numbers the problem
-//! that was made has, and the least time of the call in nanoseconds, of as many calls as the program's one word says, 0 without
-//! a word.
+//! The word `problem` or `threshold` in its place asks for that problem of the matrix, made and not solved, and `solve` for its
+//! threshold problem solved, which is made while the line is read. It writes a line for each: the name, how many variables and
+//! rows or elements and judged pairs, the end, the pivots or how many numbers the problem that was made has, and the least time of
+//! the call in nanoseconds, of as many calls as the program's one word says, 0 without a word.
 #![tactic(auto)]
 
 mod task;

@@ -26,6 +26,8 @@ pub(crate) enum Aim {
     Problem,
     /// Its threshold problem, made and not solved.
     Threshold,
+    /// Its threshold problem, solved and not made: it is a task by itself.
+    Solve,
 }
 
 impl Task {
@@ -83,6 +85,9 @@ fn aim_of(word: Option<&str>) -> Option<Aim> {
     if word == "threshold" {
         return Some(Aim::Threshold);
     }
+    if word == "solve" {
+        return Some(Aim::Solve);
+    }
     None
 }
 
@@ -130,6 +135,22 @@ fn matrix_of(
         matrix.set(p, q, range);
         judged = judged.saturating_add(1);
     }
+    task_of(alloc, aim, matrix, judged)
+}
+
+/// The task for a matrix with so many judged pairs. Where its threshold problem is to be solved, that is made here.
+fn task_of(
+    alloc: Global,
+    aim: Aim,
+    matrix: Matrix,
+    judged: usize,
+) -> Result<Option<Task>, AllocError> {
+    if let Aim::Solve = aim {
+        if matrix.size() < 2 {
+            return Ok(None);
+        }
+        return Ok(Some(Task::Solve(threshold_problem(alloc, &matrix)?)));
+    }
     Ok(Some(Task::Ask(aim, matrix, judged)))
 }
 
@@ -156,7 +177,7 @@ fn asked(alloc: Global, aim: Aim, matrix: &Matrix) -> (&'static str, u64) {
     match aim {
         Aim::Scale => scaled(alloc, matrix),
         Aim::Problem => made(&problem(alloc, matrix)),
-        Aim::Threshold => made(&threshold_problem(alloc, matrix)),
+        Aim::Threshold | Aim::Solve => made(&threshold_problem(alloc, matrix)),
     }
 }
 

@@ -159,6 +159,35 @@ passed-next m k s t done l is so_far =
     let rest : m - (k + 1) ≡ m - 1 - k = omega arith in
     ap₂ passed rest is ∙ ap (λ n. passed n s) (sym whole) ∙ so_far
 
+-- nothing takes nothing off
+left_after-none : (h : ℕ) (xs : List (ℕ × ℕ)) → left_after h 0 xs ≡ 0
+left_after-none h [] = refl
+left_after-none h (x ∷ xs) = ap (λ a. left_after h a xs) (none (x.0 == h)) ∙ left_after-none h xs
+  where
+    none : (b : Bool) → cond b (0 - x.1) 0 ≡ 0
+    none true = omega arith
+    none false = refl
+
+rests_after-none : (h : ℕ) (xs : List (ℕ × ℕ)) → rests_after h 0 xs ≡ xs
+rests_after-none h [] = refl
+rests_after-none h (x ∷ xs) =
+    ap₂ (λ w a. (x.0, w) ∷ rests_after h a xs) (same (x.0 == h)) (none (x.0 == h)) ∙ ap (λ l. x ∷ l) (rests_after-none h xs)
+  where
+    same : (b : Bool) → cond b (x.1 - 0) x.1 ≡ x.1
+    same true = omega arith
+    same false = refl
+
+    none : (b : Bool) → cond b (0 - x.1) 0 ≡ 0
+    none true = omega arith
+    none false = refl
+
+passed-zero : (m : ℕ) (xs : List (ℕ × ℕ)) → passed m (0, xs) ≡ (0, xs)
+passed-zero zero xs = refl
+passed-zero (suc h) xs = ap₂ (λ a l. passed h (a, l)) (left_after-none h xs) (rests_after-none h xs) ∙ passed-zero h xs
+
+pub passed-none : (m a : ℕ) (xs : List (ℕ × ℕ)) → a ≡ 0 → passed m (a, xs) ≡ (a, xs)
+passed-none m a xs none = subst (λ n. passed m (n, xs) ≡ (n, xs)) (sym none) (passed-zero m xs)
+
 -- ---- all amounts
 
 -- the weights in the end

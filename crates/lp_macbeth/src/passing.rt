@@ -20,14 +20,36 @@ pub(crate) fn pass_all(
     let mut taken = Vec::new(alloc);
     let mut rests = List::make(Vec::from_slice(alloc, belows)?);
     for (category, amount) in ats {
-        let (left, after) = pass(alloc, rests.as_slice(), *category, *amount)?;
+        let left = take_off(alloc, &mut rests, &mut taken, *category, *amount)?;
         if *category >= 1 {
             kept.push(left)?;
         }
-        push_lost(&mut taken, *category, rests.as_slice(), after.as_slice())?;
-        rests = after;
     }
     Ok((List::make(kept), List::make(taken)))
+}
+
+// What is left of an amount when it took as much as it could off the weights below a category, and adds what they lost.
+// Nearly all amounts are 0, and then nothing is copied.
+fn take_off(
+    alloc: Global,
+    rests: &mut List<(u8, Weight)>,
+    taken: &mut Vec<Weight>,
+    category: u8,
+    amount: Weight,
+) -> Result<Weight, NoMemory>
+    ensures left { IfOk result (λ left. (left, rests.new)
+        ≡ passed category (amount, rests.old)) }
+    ensures taken { IfOk result (λ _. taken.new.items
+        ≡ taken.old.items ++ lost category rests.old rests.new) }
+{
+    if amount == Weight::ZERO {
+        push_lost(taken, category, rests.as_slice(), rests.as_slice())?;
+        return Ok(amount);
+    }
+    let (left, after) = pass(alloc, rests.as_slice(), category, amount)?;
+    push_lost(taken, category, rests.as_slice(), after.as_slice())?;
+    *rests = after;
+    Ok(left)
 }
 
 // What is left of an amount, and of the weights, when it took as much as it could off those below a category.
@@ -42,6 +64,9 @@ fn pass(
     let mut left = amount;
     let mut rests = List::make(Vec::from_slice(alloc, weights)?);
     for above in 0..category {
+        if left == Weight::ZERO {
+            return Ok((left, rests));
+        }
         (left, rests) = pass_at(alloc, rests.as_slice(), category - 1 - above, left)?;
     }
     Ok((left, rests))
