@@ -13,6 +13,7 @@ pub mod LineLemmas
 pub mod NamingLemmas
 pub mod NumberLemmas
 pub mod OneText
+pub mod PlaceLemmas
 pub mod PrintedWords
 pub mod PrintingLemmas
 pub mod ReachedLemmas

@@ -2,6 +2,7 @@ pub mod Columns
 pub mod Entries
 pub mod First
 pub mod Lines
+pub mod Places
 pub mod Printing
 pub mod Reading
 pub mod Rows

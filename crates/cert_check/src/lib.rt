@@ -6,6 +6,7 @@ mod columns;
 mod entries;
 pub mod laws;
 mod numbers;
+mod places;
 mod placing;
 mod printing;
 mod reading;
@@ -15,6 +16,7 @@ mod verdict;
 mod words;
 
 pub use check::{check_dual, check_farkas};
+pub use places::check_text;
 pub use placing::{Placed, name_rows, place};
 pub use printing::{print_cert, read_printed};
 pub use reading::read_cert;

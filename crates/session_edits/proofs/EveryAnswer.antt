@@ -48,7 +48,8 @@ use Rattle.session_state.specs.declared.subject.Subject.{Subject}
 use Rattle.session_edits.specs.Refusals.{refused, number_of, or_too_wide, or_refused, ◌>>=◌}
 use Rattle.session_edits.specs.Subjects.{names_of, criterion_named, weighting_of, matrix_named, all_subjects}
 use Rattle.session_edits.specs.Edits.{edit_of, Shows, Refuses, AnswersEdited, AnswersUndone, OfBlock}
-use Rattle.session_edits.specs.Matrices.{matrix_reply, rows_reply, fit_reply, TellsFit, Fits, TellsOfText, ReadsCertificate, Verifies, verdict_reply, at_places, check_on}
+use Rattle.session_edits.specs.Matrices.{matrix_reply, rows_reply, fit_reply, TellsFit, Fits, TellsOfText, ReadsCertificate, Verifies, verdict_reply}
+use Rattle.cert_check.specs.Places.{at_places, check_on}
 use Rattle.session_edits.specs.Scales.{Asks, worth_of, told}
 use Rattle.session_edits.specs.Scores.{with_worth, TakesAll, TakesBehind, AsksAll, WherePerformed, WhereWeighed, TellsSubtotals, missing, option_places, checked_scores, checked_subtotals}
 use Rattle.session_edits.specs.Groups.{groups_reply}

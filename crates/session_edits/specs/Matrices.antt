@@ -1,24 +1,18 @@
 -- What is asked of a matrix alone: its judgements, its rows, whether values meet it, whether a certificate holds of it.
-use Rattle.std.specs.Prelude.{◌≡◌, ◌⊎◌, ℕ, ◌==◌, ℤ, Bool, List, [], ◌∷◌, map, length, Result, Ok, Err, MatchBool}
-use Rattle.std.specs.List.{position_or_len}
-use Rattle.std.specs.Cmp.Lexicographic.{pointwise}
+use Rattle.std.specs.Prelude.{◌≡◌, ◌⊎◌, ℕ, ◌==◌, ℤ, List, map, length, Result, Ok, Err, MatchBool}
 use Rattle.integers.specs.Fraction.{Fraction}
 use Rattle.frac128.specs.declared.number.TooWide.{TooWide}
-use Rattle.frac128.specs.Problem.{ProblemData}
-use Rattle.frac128.specs.declared.problem.Cert.{Cert}
 use Rattle.frac128.specs.declared.problem.Row.{Row}
 use Rattle.judgement_matrix.specs.Matrix.{Judgements}
 use Rattle.judgement_matrix.specs.Values.{IsAnswer}
 use Rattle.judgement_matrix.specs.declared.tag.Fit.{Fit}
 use Rattle.judgement_matrix.specs.declared.tag.Fit.TheVariants as fit
 use Rattle.judgement_matrix.specs.declared.tag.Tag.{Tag}
-use Rattle.judgement_matrix.specs.declared.tag.Tag.TheVariants.{Lower, Zero, Cross, Order}
-use Rattle.lp_macbeth.specs.Rows.{judged_rows, problem_of, tagged_rows}
-use Rattle.cert_check.specs.Lines.{Check, IsVerdict, span_check, farkas_check}
+use Rattle.lp_macbeth.specs.Rows.{tagged_rows}
+use Rattle.cert_check.specs.Lines.{IsVerdict}
+use Rattle.cert_check.specs.Places.{check_of}
 use Rattle.cert_check.specs.Text.{IsTextOf, IsFirstBad}
 use Rattle.cert_check.specs.declared.text.CertText.{CertText}
-use Rattle.cert_check.specs.declared.text.Claim.{Claim}
-use Rattle.cert_check.specs.declared.text.Claim.TheVariants.{Least, Nothing}
 use Rattle.cert_check.specs.declared.verdict.Verdict.{Verdict}
 use Rattle.cert_check.specs.declared.verdict.Verdict.TheVariants.{Holds, Fails}
 use Rattle.command_read.specs.declared.block.Held.{Held}
@@ -71,32 +65,6 @@ Fits s values subject r next =
     (TellsFit s.model subject values r × (next ≡ s)) (Refuses s WRONG_COUNT r next)
 
 -- ---- `verify`
-
--- the kind of a row and its positions, as numbers
-abbrev pub tag_numbers : Tag → List ℕ
-tag_numbers (Lower p q) = 0 ∷ p ∷ q ∷ []
-tag_numbers (Zero p q) = 1 ∷ p ∷ q ∷ []
-tag_numbers (Cross p q x y) = 2 ∷ p ∷ q ∷ x ∷ y ∷ []
-tag_numbers (Order p) = 3 ∷ p ∷ []
-
-abbrev pub is_same_tag : Tag → Tag → Bool
-is_same_tag a b = pointwise ◌==◌ (tag_numbers a) (tag_numbers b)
-
--- an entry by the position of its tag among those of rows; a tag that is none of them stands past the last one
-abbrev pub at_place : List Tag → Tag × ℤ → ℕ × ℤ
-at_place tags entry = (position_or_len (is_same_tag entry.0) tags, entry.1)
-
--- a certificate by the positions of its rows
-abbrev pub at_places : Judgements → CertText → Cert
-at_places m cert = record { den = cert.den; on = map (at_place (judged_rows m)) cert.on }
-
--- the lines that are checked, by what the certificate claims
-abbrev pub check_on : ProblemData → Claim → Cert → Check
-check_on p (Least value) cert = span_check p value cert
-check_on p Nothing cert = farkas_check p cert
-
-abbrev pub check_of : Judgements → CertText → Check
-check_of m cert = check_on (problem_of m) cert.claim (at_places m cert)
 
 abbrev pub verdict_reply : Result Verdict TooWide → Reply
 verdict_reply (Ok Holds) = reply.Holds

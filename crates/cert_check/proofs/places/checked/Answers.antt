@@ -1,7 +1,7 @@
 use Rattle.std.proofs.Common.{subst, sym}
 use Rattle.cert_check.specs.Lines.{IsVerdict}
-use Rattle.session_edits.specs.Matrices.{check_on}
-use Rattle.session_edits.proofs.verify.checked.Goals as goal
+use Rattle.cert_check.specs.Places.{check_on}
+use Rattle.cert_check.proofs.places.checked.Goals as goal
 
 pub returns-in-Least : goal.returns-in-Least
 returns-in-Least c =
