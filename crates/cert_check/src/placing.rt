@@ -1,8 +1,10 @@
 //! Certificates by tags and by positions of rows.
 
-ghost use Rattle.std.specs.Prelude.{◌≡◌, ◌↔◌, ◌≤◌, IsTrue, map, IfOk, MatchOption, Contains, slice_get, Some};
+ghost use Rattle.std.specs.Prelude.{◌≡◌, ◌↔◌, ◌≤◌, pos, IsTrue, map, IfOk, MatchOption, Contains, slice_get, Some};
 ghost use Rattle.lp_macbeth.specs.Rows.{judged_rows};
 ghost use Rattle.cert_check.specs.Rows.{IsNamed, IsPlaced, AreRows, HasRows};
+ghost use Rattle.cert_check.specs.Text.{IsPrintable};
+ghost use Rattle.cert_check.specs.declared.text.Claim.TheVariants.{Nothing};
 
 use crate::text::{CertText, Claim};
 use frac128::problem::Cert;
@@ -42,7 +44,8 @@ pub fn place(alloc: Global, matrix: &Matrix, text: &CertText) -> Result<Placed, 
     }))
 }
 
-/// The certificate by the tags of its rows, with what it claims.
+/// The certificate by the tags of its rows, with what it claims. It has a text, unless it claims that no point meets the problem
+/// over another denominator than 1.
 pub fn name_rows(
     alloc: Global,
     matrix: &Matrix,
@@ -53,6 +56,7 @@ pub fn name_rows(
     requires rows { AreRows matrix.now cert.now.on }
     ensures named { IfOk result (λ text. IsNamed matrix.now text cert.now) }
     ensures claim { IfOk result (λ text. text.claim ≡ claim) }
+    ensures printable { (claim ≡ Nothing → cert.now.den ≡ pos 1) → IfOk result IsPrintable }
 {
     let entries = cert.on.as_slice();
     let tags = tags_of(alloc, matrix, entries)?;

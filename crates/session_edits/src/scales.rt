@@ -1,7 +1,8 @@
 //! What is asked of the basic scale of a matrix.
-ghost use Rattle.std.specs.Prelude.{◌≡◌, ◌≤◌, ◌-◌, All, IfOk, length, Ok};
+ghost use Rattle.std.specs.Prelude.{◌≡◌, ◌≤◌, ◌-◌, pos, IfOk, length, Ok};
 ghost use Rattle.cert_check.specs.Rows.{AreRows};
-ghost use Rattle.cert_check.specs.Text.{HasTagText, IsPrintable as HasCertText};
+ghost use Rattle.cert_check.specs.Text.{IsPrintable as HasCertText};
+ghost use Rattle.cert_check.specs.declared.text.Claim.TheVariants.{Nothing};
 ghost use Rattle.report_text.specs.Reply.{IsPrintable};
 ghost use Rattle.session_state.specs.State.{matrix_of};
 ghost use Rattle.session_state.specs.Taking.{IsSubject};
@@ -58,7 +59,7 @@ fn named(alloc: Global, matrix: &Matrix, claim: Claim, cert: &Cert) -> Result<Ce
     requires size { 2 ≤ matrix.now.size }
     requires rows { AreRows matrix.now cert.now.on }
     ensures value { IfOk result (λ text. text ≡ named matrix.now claim cert.now) }
-    ensures tags { IfOk result (λ text. All (λ entry. HasTagText entry.0) text.on) }
+    ensures printable { (claim ≡ Nothing → cert.now.den ≡ pos 1) → IfOk result HasCertText }
 {
     name_rows(alloc, matrix, claim, cert)
 }

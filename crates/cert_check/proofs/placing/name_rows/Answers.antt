@@ -1,9 +1,11 @@
 use Rattle.std.proofs.Common.{◌≡◌, ◌∙◌, ◌++◌, ◌∷◌, [], ◌+◌, ◌<◌, ℕ, ℤ, pos, List, length, map, take, get_or, refl, sym, ap, subst, rules, arith}
-use Rattle.std.specs.Prelude.{Some, slice_get}
+use Rattle.std.specs.Prelude.{Some, slice_get, All}
 use Rattle.std.proofs.lemmas.List.{take_more}
+use Rattle.judgement_matrix.specs.declared.tag.Tag.{Tag}
 use Rattle.lp_macbeth.specs.Rows.{judged_rows}
 use Rattle.cert_check.specs.Rows.{AreNamed}
-use Rattle.cert_check.proofs.NamingLemmas.{AreNamed-next, tag_of_entry}
+use Rattle.cert_check.specs.Text.{HasTagText}
+use Rattle.cert_check.proofs.NamingLemmas.{AreNamed-next, tag_of_entry, named_texts}
 use Rattle.cert_check.proofs.placing.name_rows.Goals as goal
 
 pub loop-i-init : goal.loop-i-init
@@ -27,3 +29,11 @@ loop-i-preserved c =
     subst (λ named. AreNamed m named (take (i + 1) on)) (sym items)
     (subst (AreNamed m (c.loop-i.on.items ++ c.named_entry.result ∷ [])) (sym (take_more on i (0, pos 0) inside))
     (AreNamed-next m c.loop-i.on.items (take i on) c.named_entry.result entry tag (sym multiplier) c.loop-i.invariant))
+
+pub returns-clause-printable : goal.returns-clause-printable
+returns-clause-printable c one = record {
+  den_one = λ e. let is = one e in search rules;
+  tags =
+      subst (λ on. All (λ (entry : Tag × ℤ). HasTagText entry.0) on) (sym c.make.ensures)
+      (named_texts c.args.matrix.now c.loop-i.on.items (take c.loop-i.i c.args.cert.now.on) c.loop-i.invariant);
+}
