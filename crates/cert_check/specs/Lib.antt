@@ -1,4 +1,5 @@
 pub mod Columns
+pub mod Dominance
 pub mod Entries
 pub mod First
 pub mod Lines

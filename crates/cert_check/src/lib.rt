@@ -3,6 +3,7 @@
 
 mod check;
 mod columns;
+mod dominance;
 mod entries;
 pub mod laws;
 mod numbers;
@@ -16,6 +17,7 @@ mod verdict;
 mod words;
 
 pub use check::{check_dual, check_farkas};
+pub use dominance::{OpenTag, push_open_tag};
 pub use places::check_text;
 pub use placing::{Placed, name_rows, place};
 pub use printing::{print_cert, read_printed};

@@ -26,7 +26,8 @@ use Rattle.report_text.specs.Names.{quoted, two_names, name_at, pair_words, tag_
 use Rattle.report_text.specs.Refusals.{refusal_line, refusal_texts, refusal_words, detail_words}
 use Rattle.report_text.specs.Values.{amount_words, value_line, amount_line, values_lines, amounts_lines, values_words, high_words, scale_line, weight_line, not_lines, subtotals_lines}
 use Rattle.report_text.specs.Matrices.{judged_line, matrix_lines, row_line, rows_lines, pairs_of, step_words, shift_line, repairs_lines, repairs_heading}
-use Rattle.report_text.specs.Certificates.{cert_lines, place_words, positions_words, open_tag_words, open_line, subject_words, proof_words, part_lines, part_lines_by, parts_lines}
+use Rattle.cert_check.specs.Dominance.{positions_words, open_tag_words, open_line, proof_words}
+use Rattle.report_text.specs.Certificates.{cert_lines, place_words, subject_words, part_lines, part_lines_by, parts_lines}
 use Rattle.report_text.specs.Lists.{pair_line, group_line, placed_line, groups_lines, pivots_words, stats_line}
 use Rattle.report_text.specs.OneLine.{IsLine, IsNamed, AreNamed, IsGroup, HasLine, IsHeaded, HasLines}
 use Rattle.report_text.specs.Reply.{reply_lines}
@@ -34,8 +35,8 @@ use Rattle.report_text.specs.declared.reply.Detail.{Detail}
 use Rattle.report_text.specs.declared.reply.Detail.TheVariants as detail
 use Rattle.report_text.specs.declared.reply.Head.{Head}
 use Rattle.report_text.specs.declared.reply.Head.TheVariants as head
-use Rattle.report_text.specs.declared.reply.OpenTag.{OpenTag}
-use Rattle.report_text.specs.declared.reply.OpenTag.TheVariants as kind
+use Rattle.cert_check.specs.declared.dominance.OpenTag.{OpenTag}
+use Rattle.cert_check.specs.declared.dominance.OpenTag.TheVariants as kind
 use Rattle.report_text.specs.declared.reply.Part.{Part}
 use Rattle.report_text.specs.declared.reply.Reply.{Reply}
 use Rattle.report_text.specs.declared.reply.Reply.TheVariants as reply

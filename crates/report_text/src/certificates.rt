@@ -3,14 +3,15 @@ ghost use Rattle.std.specs.Prelude.{◌≡◌, ◌++◌, ◌∷◌, [], codes, m
 ghost use Rattle.std.specs.Fmt.{decimal, signed_decimal};
 ghost use Rattle.std.specs.List.{flat_map};
 ghost use Rattle.frac128.specs.Text.{frac_text};
+ghost use Rattle.cert_check.specs.Dominance.{open_line, proof_words};
 ghost use Rattle.cert_check.specs.Text.{IsPrintable as HasCertText};
 ghost use Rattle.report_text.specs.Lines.{Adds, lines_text, counted};
-ghost use Rattle.report_text.specs.Certificates.{cert_lines, place_words, open_tag_words, open_line, subject_words, proof_words, part_lines, parts_lines, positions_words};
+ghost use Rattle.report_text.specs.Certificates.{cert_lines, place_words, subject_words, part_lines, parts_lines};
 
 use crate::NoMemory;
-use crate::reply::{Head, OpenTag, Part};
+use crate::reply::{Head, Part};
 use crate::words::{push_count, push_frac, push_newline, push_number, push_quoted, push_signed};
-use cert_check::{CertText, Place, print_cert};
+use cert_check::{CertText, OpenTag, Place, print_cert, push_open_tag};
 use frac128::Frac;
 use std::alloc::Global;
 
@@ -188,35 +189,4 @@ fn push_entry(
     out.push_str(" ")?;
     push_signed(alloc, out, *multiplier)?;
     push_newline(out)
-}
-
-fn push_open_tag(alloc: Global, out: &mut String, tag: OpenTag) -> Result<(), NoMemory>
-    ensures { Adds result out.old out.new (open_tag_words tag) }
-{
-    match tag {
-        OpenTag::Zero(p, q) => {
-            out.push_str("zero ")?;
-            push_positions(alloc, out, p, q)
-        }
-        OpenTag::Cross(p, q, x, y) => {
-            out.push_str("cross ")?;
-            push_positions(alloc, out, p, q)?;
-            out.push_str(" ")?;
-            push_positions(alloc, out, x, y)
-        }
-        OpenTag::AnchorUp => out.push_str("anchor-up"),
-        OpenTag::AnchorDown => out.push_str("anchor-down"),
-        OpenTag::ReachUp => out.push_str("reach-up"),
-        OpenTag::ReachDown => out.push_str("reach-down"),
-        OpenTag::SumUp => out.push_str("sum-up"),
-        OpenTag::SumDown => out.push_str("sum-down"),
-    }
-}
-
-fn push_positions(alloc: Global, out: &mut String, p: u8, q: u8) -> Result<(), NoMemory>
-    ensures { Adds result out.old out.new (positions_words p q) }
-{
-    push_number(alloc, out, u64::from(p))?;
-    out.push_str(" ")?;
-    push_number(alloc, out, u64::from(q))
 }

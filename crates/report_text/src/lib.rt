@@ -11,8 +11,9 @@ mod reply;
 mod values;
 mod words;
 
+pub use cert_check::OpenTag;
 pub use print::text;
-pub use reply::{Detail, Head, OpenTag, Part, Reply};
+pub use reply::{Detail, Head, Part, Reply};
 
 /// Why a call that takes memory gave none of its other answers.
 pub use std::alloc::AllocError as NoMemory;

@@ -1,5 +1,5 @@
 //! Replies as data.
-use cert_check::{CertText, Place};
+use cert_check::{CertText, OpenTag, Place};
 use frac128::{Frac, List};
 use judgement_matrix::{Range, Shift, Tag};
 use model_core::{Name, Pointer, Text};
@@ -34,27 +34,6 @@ pub enum Head {
     Criterion(Name),
     /// The open weightings.
     Weighting,
-}
-
-/// A row of the closed problem of a criterion or of the weighting. Positions of elements count from 1.
-#[derive(Clone, Copy, Debug, PartialEq, Eq)]
-pub enum OpenTag {
-    /// The two elements are equally attractive.
-    Zero(u8, u8),
-    /// The first pair was judged above the second one.
-    Cross(u8, u8, u8, u8),
-    /// Good stands at least 100 above neutral.
-    AnchorUp,
-    /// Good stands at most 100 above neutral.
-    AnchorDown,
-    /// The span and the room make at least the reach.
-    ReachUp,
-    /// The span and the room make at most the reach.
-    ReachDown,
-    /// The weights make at least 1.
-    SumUp,
-    /// The weights make at most 1.
-    SumDown,
 }
 
 /// One part of a dominance certificate.

@@ -1,7 +1,7 @@
 use Rattle.std.proofs.Common.{◌≡◌, ◌++◌, drop, map}
 use Rattle.std.specs.Prelude.{string_bytes}
 use Rattle.report_text.specs.Lines.{lines_text}
-use Rattle.report_text.specs.Certificates.{open_line}
+use Rattle.cert_check.specs.Dominance.{open_line}
 use Rattle.report_text.proofs.certificates.push_entries.Given as goal
 
 abbrev pub invariant-loop-tag : goal.invariant-loop-tag

@@ -1,7 +1,7 @@
 use Rattle.std.proofs.Common.{◌≡◌, length, map, subst}
 use Rattle.std.specs.Prelude.{OnOk, string_bytes}
 use Rattle.std.proofs.lemmas.List.{length-map}
-use Rattle.report_text.specs.Certificates.{open_line, proof_words}
+use Rattle.cert_check.specs.Dominance.{open_line, proof_words}
 use Rattle.report_text.proofs.LineLemmas.{under_heading, numbered}
 use Rattle.report_text.proofs.certificates.push_proof.Goals as goal
 

@@ -1,6 +1,7 @@
 use Rattle.std.proofs.Common.{◌≡◌, map, subst}
 use Rattle.std.specs.Prelude.{OnOk, string_bytes}
-use Rattle.report_text.specs.Certificates.{open_line, proof_words, subject_words}
+use Rattle.cert_check.specs.Dominance.{open_line, proof_words}
+use Rattle.report_text.specs.Certificates.{subject_words}
 use Rattle.report_text.proofs.LineLemmas.{behind}
 use Rattle.report_text.proofs.certificates.push_solved.Goals as goal
 
