@@ -1,5 +1,5 @@
 -- What results keep where a basic scale is kept, and after a change of the model.
-use Rattle.std.proofs.Common.{◌≡◌, ◌⊎◌, inl, inr, ℕ, zero, suc, ◌<◌, Bool, true, false, length, get_or, set, map, List, [], ◌∷◌, ◌++◌, drop, slice_get, ◌+◌, add-one, Option, Some, None, Ok, Err, cond, refl, sym, ap, ap₂, subst, ◌∙◌, arith}
+use Rattle.std.proofs.Common.{◌≡◌, ◌⊎◌, ◌↔◌, inl, inr, ℕ, zero, suc, ◌<◌, Bool, true, false, length, get_or, set, map, List, [], ◌∷◌, ◌++◌, drop, slice_get, ◌+◌, add-one, Option, Some, None, Ok, Err, cond, refl, sym, ap, ap₂, subst, ◌∙◌, arith}
 use Rattle.std.specs.Option.{option_and_then}
 use Rattle.std.proofs.lemmas.List.{get_or-map, length-map, length-set}
 use Rattle.std.proofs.lemmas.Option.{get_or_from_slice_get}
@@ -151,3 +151,58 @@ places-push f xs i x y places now so_far there is pushed =
   where
     next : map f (drop i xs) ≡ y ∷ map f (drop (i + 1) xs)
     next = rw (add-one, is) (rest-next f xs i x there)
+
+-- ---- kept exactly
+
+-- what is kept of a criterion after a change was kept of the one of its name, with the same judgements
+abbrev IsKeptFrom : ModelState → ResultsState → CriterionState → Basic → Option ℕ → Type 0
+IsKeptFrom m r after basic found =
+    (before : ℕ) × (found ≡ Some before) × ((criterion_at m before).matrix ≡ after.matrix) × (kept_of r (Criterion before) ≡ Some basic)
+
+same_place : (a b : ℕ) → Some a ≡ Some b → a ≡ b
+same_place a b h = cc
+
+pub still_kept-exactly : (m : ModelState) (r : ResultsState) (after : CriterionState) (basic : Basic)
+    → (still_kept m r after ≡ Some basic) ↔ IsKeptFrom m r after basic (find_criterion m after.name)
+still_kept-exactly m r after basic = (there (find_criterion m after.name), back (find_criterion m after.name))
+  where
+    there : (found : Option ℕ)
+        → option_and_then (λ c. cond (same_judgements (criterion_at m c).matrix after.matrix) (get_or r.kept c None) None) found ≡ Some basic
+        → (before : ℕ) × (found ≡ Some before) × ((criterion_at m before).matrix ≡ after.matrix) × (kept_of r (Criterion before) ≡ Some basic)
+    there None is = absurd (let e = is in cc)
+    there (Some c) is =
+        let both = chosen (same_judgements (criterion_at m c).matrix after.matrix) (get_or r.kept c None) basic is in
+        (c, refl, same_matrix (criterion_at m c).matrix after.matrix both.0, both.1)
+
+    back : (found : Option ℕ)
+        → ((before : ℕ) × (found ≡ Some before) × ((criterion_at m before).matrix ≡ after.matrix) × (kept_of r (Criterion before) ≡ Some basic))
+        → option_and_then (λ c. cond (same_judgements (criterion_at m c).matrix after.matrix) (get_or r.kept c None) None) found ≡ Some basic
+    back None (before, at, same, kept) = absurd (let e = at in cc)
+    back (Some c) (before, at, same, kept) =
+        let here : c ≡ before = same_place c before at in
+        let test : same_judgements (criterion_at m c).matrix after.matrix ≡ true =
+        (same_judgements-Decides (criterion_at m c).matrix after.matrix).1 (ap (λ d. (criterion_at m d).matrix) here ∙ same) in
+        ap (λ t. cond t (get_or r.kept c None) None) test ∙ ap (λ d. get_or r.kept d None) here ∙ kept
+
+pub carried-exactly : (m after : ModelState) (r : ResultsState) (c : ℕ) (basic : Basic) → c < length after.criteria
+    → (kept_of (carried m r after) (Criterion c) ≡ Some basic)
+    ↔ ((before : ℕ) × (find_criterion m (criterion_at after c).name ≡ Some before)
+    × ((criterion_at m before).matrix ≡ (criterion_at after c).matrix) × (kept_of r (Criterion before) ≡ Some basic))
+carried-exactly m after r c basic within =
+    let place = get_or-map (still_kept m r) after.criteria c no_criterion None within in
+    let exact = still_kept-exactly m r (criterion_at after c) basic in
+    (λ is. exact.0 (sym place ∙ is), λ from. place ∙ exact.1 from)
+
+pub carried_weighting-exactly : (m after : ModelState) (r : ResultsState) (basic : Basic)
+    → (kept_of (carried m r after) Weighting ≡ Some basic) ↔ ((m.weighting ≡ after.weighting) × (kept_of r Weighting ≡ Some basic))
+carried_weighting-exactly m after r basic = (there, back)
+  where
+    there : cond (same_judgements m.weighting after.weighting) r.kept_weighting None ≡ Some basic
+        → (m.weighting ≡ after.weighting) × (kept_of r Weighting ≡ Some basic)
+    there is =
+        let both = chosen (same_judgements m.weighting after.weighting) r.kept_weighting basic is in
+        (same_matrix m.weighting after.weighting both.0, both.1)
+
+    back : (m.weighting ≡ after.weighting) × (kept_of r Weighting ≡ Some basic)
+        → cond (same_judgements m.weighting after.weighting) r.kept_weighting None ≡ Some basic
+    back (same, kept) = ap (λ t. cond t r.kept_weighting None) ((same_judgements-Decides m.weighting after.weighting).1 same) ∙ kept

@@ -1,5 +1,5 @@
 -- What each state of a session holds, through edits, an undo and what is taken.
-use Rattle.std.proofs.Common.{◌≡◌, ◌⊎◌, inl, inr, ℕ, ◌+◌, ◌-◌, ◌<◌, ◌≤◌, List, [], ◌∷◌, ◌++◌, length, drop, take, slice_get, get_or, All, Option, Some, None, Result, Ok, Err, refl, sym, subst, ◌∙◌, ap, arith, rules, length-append, length-drop}
+use Rattle.std.proofs.Common.{◌≡◌, ◌⊎◌, inl, inr, ℕ, zero, suc, ◌+◌, ◌-◌, ◌<◌, ◌≤◌, List, [], ◌∷◌, ◌++◌, length, drop, take, slice_get, get_or, All, Option, Some, None, Result, Ok, Err, refl, sym, subst, ◌∙◌, ap, arith, rules, length-append, length-drop}
 use Rattle.std.specs.Option.{option_map}
 use Rattle.std.proofs.lemmas.List.Elements.{All-nil, All-cons, All-append, All-drop, All-take}
 use Rattle.std.proofs.lemmas.Option.{get_or_from_slice_get, slice_get_within}
@@ -154,3 +154,61 @@ takable m subject results whole is = by_kept (kept_of results subject)
         let matrix = subject_matrix m subject whole is in
         let h = found (every_matrix_has_an_answer (matrix_of m subject) matrix.0 matrix.1 results.pivots) in
         (h.0, after_run subject h.0 h.1 results, record { count = h.1; found = h.2; kept = refl })
+
+-- what is kept is taken as it is
+pub kept_is_taken : (m : ModelState) (subject : Subject) (results after : ResultsState) (answer : Result Basic TooWide) (basic : Basic)
+    → kept_of results subject ≡ Some basic → Takes m subject results answer after → (answer ≡ Ok basic) × (after ≡ results)
+kept_is_taken m subject results after answer basic kept takes =
+    subst (λ k. TakesFrom k (matrix_of m subject) subject results answer after) kept takes
+
+-- ---- an undo behind a change
+
+slice_get-last : {A : Type 0} (xs : List A) (x : A) → slice_get (xs ++ x ∷ []) (length xs) ≡ Some x
+slice_get-last [] x = refl
+slice_get-last (y ∷ xs) x = slice_get-last xs x
+
+take-front : {A : Type 0} (xs : List A) (x : A) → take (length xs) (xs ++ x ∷ []) ≡ xs
+take-front [] x = refl
+take-front (y ∷ xs) x = ap (λ ys. y ∷ ys) (take-front xs x)
+
+drop-front : {A : Type 0} (k : ℕ) (xs : List A) (x : A) → k ≤ length xs → drop k (xs ++ x ∷ []) ≡ drop k xs ++ x ∷ []
+drop-front zero xs x h = refl
+drop-front (suc k) [] x h = absurd (omega arith)
+drop-front (suc k) (y ∷ xs) x h = drop-front k xs x (omega arith)
+
+-- the history after a change: what fits of the one before, and the model
+kept_history : (s : SessionState) → keep_last UNDO_STEPS (s.history ++ s.model ∷ []) ≡ drop (length s.history + 1 - UNDO_STEPS) s.history ++ s.model ∷ []
+kept_history s =
+    let all : length (s.history ++ s.model ∷ []) ≡ length s.history + 1 = length-append s.history (s.model ∷ []) in
+    ap (λ n. drop (n - UNDO_STEPS) (s.history ++ s.model ∷ [])) all
+    ∙ drop-front (length s.history + 1 - UNDO_STEPS) s.history s.model (omega arith)
+
+-- the newest model of it is the one before the change
+pub undone_of_changed : (s : SessionState) (after : ModelState) → (t : SessionState) × (undone (changed s after) ≡ Some t) × (t.model ≡ s.model)
+    × (length s.history < UNDO_STEPS → t.history ≡ s.history)
+undone_of_changed s after = (
+  gone_back (changed s after) s.model,
+  ap (option_map (gone_back (changed s after))) newest,
+  refl,
+  λ room. before ∙ ap (λ k. drop k s.history) (none room),
+)
+  where
+    count : length (changed s after).history - 1 ≡ length (drop (length s.history + 1 - UNDO_STEPS) s.history)
+    count =
+        let h = ap length (kept_history s) in
+        omega (arith, h, length-append (drop (length s.history + 1 - UNDO_STEPS) s.history) (s.model ∷ []))
+
+    newest : last_item (changed s after).history ≡ Some s.model
+    newest =
+        ap (λ n. slice_get (changed s after).history n) count
+        ∙ ap (λ h. slice_get h (length (drop (length s.history + 1 - UNDO_STEPS) s.history))) (kept_history s)
+        ∙ slice_get-last (drop (length s.history + 1 - UNDO_STEPS) s.history) s.model
+
+    before : take (length (changed s after).history - 1) (changed s after).history ≡ drop (length s.history + 1 - UNDO_STEPS) s.history
+    before =
+        ap (λ n. take n (changed s after).history) count
+        ∙ ap (λ h. take (length (drop (length s.history + 1 - UNDO_STEPS) s.history)) h) (kept_history s)
+        ∙ take-front (drop (length s.history + 1 - UNDO_STEPS) s.history) s.model
+
+    none : length s.history < UNDO_STEPS → length s.history + 1 - UNDO_STEPS ≡ 0
+    none room = omega (arith, room)
