@@ -1,12 +1,12 @@
 -- Replies to entries, one after another.
-use Rattle.std.proofs.Common.{◌≡◌, ℕ, Bool, true, false, ◌||◌, cond, List, [], ◌∷◌, ◌++◌, length, take, refl, sym, ap, ◌∙◌, append_assoc}
+use Rattle.std.proofs.Common.{◌≡◌, ℕ, zero, suc, Option, Some, None, slice_get, subst, Bool, true, false, ◌||◌, cond, List, [], ◌∷◌, ◌++◌, length, take, refl, sym, ap, ◌∙◌, append_assoc}
 use Rattle.std.specs.List.{list_any}
 use Rattle.std.proofs.lemmas.Bool.{true≢false}
 use Rattle.std.proofs.lemmas.List.{append-nil, take_at}
 use Rattle.std.proofs.lemmas.List.Folds.{list_any-append}
 use Rattle.transcript.specs.Entry.{Entry}
 use Rattle.transcript.specs.Rules.{Rules, IsAnswer, IsKept, IsTotal}
-use Rattle.transcript.specs.Transcript.{up_to_quit, Answers}
+use Rattle.transcript.specs.Transcript.{up_to_quit, Answers, HasReply}
 
 no_quit_parts : (a b : Bool) → (a || b) ≡ false → (a ≡ false) × (b ≡ false)
 no_quit_parts true b h = absurd (true≢false h)
@@ -80,3 +80,30 @@ module _ (quits : Entry → Bool) where
   pub up_to_quit-cons : (entry : Entry) (more : List Entry) → up_to_quit quits (entry ∷ more) ≡ entry ∷ behind entry more
   up_to_quit-cons entry more = elim (quits entry) as
       (λ (b : Bool). cond b (entry ∷ []) (entry ∷ up_to_quit quits more) ≡ entry ∷ cond b [] (up_to_quit quits more)) [ true ↦ refl | false ↦ refl ]
+
+-- each entry that was answered has its reply
+pub has_reply : {S : Type 0} (rules : Rules S) (state next : S) (entries : List Entry) (text : List ℕ) (k : ℕ) (entry : Entry)
+    → Answers rules state entries text next → slice_get entries k ≡ Some entry → HasReply rules entry text
+has_reply rules state next [] text zero entry answers at = absurd (let e = at in cc)
+has_reply rules state next [] text (suc k) entry answers at = absurd (let e = at in cc)
+has_reply rules state next (x ∷ entries) text zero entry (reply, after, others, answer, is, rest) at =
+    let same : x ≡ entry = cc in record {
+      before = state;
+      after = after;
+      reply = reply;
+      answer = subst (λ e. IsAnswer rules state e reply after) same answer;
+      front = [];
+      rest = others;
+      stands = is;
+    }
+has_reply rules state next (x ∷ entries) text (suc k) entry (reply, after, others, answer, is, rest) at =
+    let h = has_reply rules after next entries others k entry rest at in record {
+      before = h.before;
+      after = h.after;
+      reply = h.reply;
+      answer = h.answer;
+      front = reply ++ h.front;
+      rest = h.rest;
+      stands = is ∙ ap (λ (t : List ℕ). reply ++ t) h.stands ∙ sym (append_assoc reply (h.front ++ h.reply) h.rest)
+          ∙ ap (λ (t : List ℕ). t ++ h.rest) (sym (append_assoc reply h.front h.reply));
+    }

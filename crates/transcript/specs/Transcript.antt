@@ -31,3 +31,13 @@ pub record IsTranscript {S : Type 0} (rules : Rules S) (first : S) (ended quits 
     pub are : AreEntries rules.takes_block ended bytes entries
     pub quit : list_any rules.quits entries ≡ quits
     pub replies : Replies rules first (up_to_quit rules.quits entries) text
+
+-- in the text a reply stands at its place that is the answer to this entry, from a state that holds to one that holds
+pub record HasReply {S : Type 0} (rules : Rules S) (entry : Entry) (text : List ℕ) : Type 0 where
+  pub before : S
+  pub after : S
+  pub reply : List ℕ
+  pub answer : IsAnswer rules before entry reply after
+  pub front : List ℕ
+  pub rest : List ℕ
+  pub stands : text ≡ front ++ reply ++ rest

@@ -1,10 +1,11 @@
 //! Laws of entries and of the status table, as contracts of functions that do nothing.
-ghost use Rattle.std.specs.Prelude.{◌≡◌, ◌⊎◌, Bool, List, ℕ, length};
+ghost use Rattle.std.specs.Prelude.{◌≡◌, ◌⊎◌, Bool, List, ℕ, Some, length, slice_get};
 ghost use Rattle.line_io.specs.Outside.{Change, Took};
 ghost use Rattle.line_io.specs.declared.lines.TheConstants.{INPUT_LIMIT};
 ghost use Rattle.transcript.specs.Entries.{AreEntries};
 ghost use Rattle.transcript.specs.Entry.{Entry};
 ghost use Rattle.transcript.specs.Table.{HasQuit, IsTold};
+ghost use Rattle.transcript.specs.Transcript.{IsTranscript, HasReply, up_to_quit};
 
 use crate::service::Service;
 use crate::status::Status;
@@ -28,4 +29,13 @@ pub fn the_input_limit_is_exact<V: Service>()
     ensures only { (first : V) (status : Status) (source sink : Change)
         → (told : IsTold V.rules first status source sink) → status ≡ Status.InputLimit
         → (length told.bytes ≡ INPUT_LIMIT) × ¬ HasQuit V.rules told.bytes }
+{}
+
+/// States that in a transcript each entry up to the first accepted `quit` has its reply, which is an
+/// answer from a state that holds to one that holds. It does nothing.
+pub fn each_reply_is_an_answer_where_it_holds<V: Service>()
+    ensures { (first : V) (ended quits : Bool) (bytes text : List ℕ) (k : ℕ) (entry : Entry)
+        → (transcript : IsTranscript V.rules first ended quits bytes text)
+        → slice_get (up_to_quit V.rules.quits transcript.entries) k ≡ Some entry
+        → HasReply V.rules entry text }
 {}
