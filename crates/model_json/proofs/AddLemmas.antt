@@ -1,5 +1,5 @@
 -- A criterion that was added is the last one, and further edits by its name change that one.
-use Rattle.std.proofs.Common.{◌≡◌, ℕ, suc, ◌+◌, ◌<◌, ◌++◌, ◌||◌, Bool, true, false, not, cond, List, [], ◌∷◌, Option, Some, None, is_some, subst, Result, Ok, length, position, get_or, All, nat_lt, nat_le, codes, refl, sym, ap, ◌∙◌, arith, length-append}
+use Rattle.std.proofs.Common.{◌≡◌, ℕ, suc, ◌+◌, ◌<◌, ◌++◌, ◌||◌, Bool, true, false, not, cond, List, [], ◌∷◌, Option, Some, None, is_some, subst, Result, Ok, Err, ◌⊎◌, inl, inr, length, position, get_or, All, nat_lt, nat_le, codes, refl, sym, ap, ◌∙◌, arith, length-append}
 use Rattle.std.specs.List.{prefix_len}
 use Rattle.std.specs.Option.{IfSome}
 use Rattle.std.specs.Str.{bytes_eq}
@@ -12,9 +12,9 @@ use Rattle.judgement_matrix.specs.declared.matrix.TheConstants.{LIMIT}
 use Rattle.model_core.specs.Lists.{changed_at}
 use Rattle.model_core.specs.State.{CriterionState, ModelState, IsCriterion, is_reserved, no_criterion}
 use Rattle.model_core.specs.Finding.{find_criterion, find_element, criterion_at, matrix_size}
-use Rattle.model_core.specs.Edits.{◌>>=◌, holds, edited, add_criterion, set_refs, set_matrix, set_reach, place, group_named, new_criterion, with_criterion, with_change}
+use Rattle.model_core.specs.Edits.{◌>>=◌, holds, Edit, Edits, edited, takes_memory, add_criterion, set_refs, set_matrix, set_reach, place, group_named, new_criterion, with_criterion, with_change}
 use Rattle.model_core.specs.declared.edit.EditFault.{EditFault}
-use Rattle.model_core.specs.declared.edit.EditFault.TheVariants.{NameTaken, LimitReached}
+use Rattle.model_core.specs.declared.edit.EditFault.TheVariants.{NameTaken, LimitReached, NoMemory}
 use Rattle.model_core.specs.declared.limits.TheConstants.{CRITERIA}
 
 module _ {A : Type 0} where
@@ -87,35 +87,52 @@ module _ (m : ModelState) (x : CriterionState) (free : find_criterion m x.name �
   size_last : is_reserved x.name ≡ false → matrix_size (with_criterion m x) x.name ≡ Some (length x.elements)
   size_last plain = rw (no_weighting x.name plain, found_last, here) refl
 
+  refs_done : (g k : List ℕ) (p q : ℕ) → find_element x g ≡ Some p → find_element x k ≡ Some q → p < q
+      → edited (with_criterion m x) (set_refs x.name g k) ≡ Ok (with_change (with_criterion m x) (length m.criteria) (λ c. record c { good = p; neutral = q }))
+  refs_done g k p q at_g at_k less =
+      let above : nat_lt p q ≡ true = grind (arith, nat_tests) in
+      rw (found_last, here, at_g, at_k, above) refl
+
+  matrix_done : (matrix : Judgements) → is_reserved x.name ≡ false
+      → edited (with_criterion m x) (set_matrix x.name matrix) ≡ Ok (with_change (with_criterion m x) (length m.criteria) (λ c. record c { matrix = matrix }))
+  matrix_done matrix plain = rw (no_weighting x.name plain, found_last) refl
+
+  reach_done : (n : ℕ) → edited (with_criterion m x) (set_reach x.name n)
+      ≡ Ok (with_change (with_criterion m x) (length m.criteria) (λ c. record c { reach = n }))
+  reach_done n = rw found_last refl
+
+  place_done : (name : Option (List ℕ)) (group : Option ℕ) → group_named m name ≡ Ok group → edited (with_criterion m x) (place x.name name)
+      ≡ Ok (with_change (with_criterion m x) (length m.criteria) (λ c. record c { group = group }))
+  place_done name group named = rw (found_last, named) refl
+
   refs_last : (m2 : ModelState) (g k : List ℕ) (p q : ℕ) → find_element x g ≡ Some p → find_element x k ≡ Some q → p < q
       → edited (with_criterion m x) (set_refs x.name g k) ≡ Ok m2 → m2 ≡ with_criterion m (record x { good = p; neutral = q })
   refs_last m2 g k p q at_g at_k less e =
-      let above : nat_lt p q ≡ true = grind (arith, nat_tests) in
-      let one : edited (with_criterion m x) (set_refs x.name g k)
-      ≡ Ok (with_change (with_criterion m x) (length m.criteria) (λ c. record c { good = p; neutral = q }))
-      = rw (found_last, here, at_g, at_k, above) refl in
-      sym (same _ m2 (sym one ∙ e)) ∙ changed (λ c. record c { good = p; neutral = q })
+      sym (same _ m2 (sym (refs_done g k p q at_g at_k less) ∙ e)) ∙ changed (λ c. record c { good = p; neutral = q })
 
   matrix_last : (m2 : ModelState) (matrix : Judgements) → is_reserved x.name ≡ false
       → edited (with_criterion m x) (set_matrix x.name matrix) ≡ Ok m2 → m2 ≡ with_criterion m (record x { matrix = matrix })
   matrix_last m2 matrix plain e =
-      let one : edited (with_criterion m x) (set_matrix x.name matrix)
-      ≡ Ok (with_change (with_criterion m x) (length m.criteria) (λ c. record c { matrix = matrix }))
-      = rw (no_weighting x.name plain, found_last) refl in
-      sym (same _ m2 (sym one ∙ e)) ∙ changed (λ c. record c { matrix = matrix })
+      sym (same _ m2 (sym (matrix_done matrix plain) ∙ e)) ∙ changed (λ c. record c { matrix = matrix })
 
   reach_last : (m2 : ModelState) (n : ℕ) → edited (with_criterion m x) (set_reach x.name n) ≡ Ok m2 → m2 ≡ with_criterion m (record x { reach = n })
   reach_last m2 n e =
-      let one : edited (with_criterion m x) (set_reach x.name n) ≡ Ok (with_change (with_criterion m x) (length m.criteria) (λ c. record c { reach = n }))
-      = rw found_last refl in
-      sym (same _ m2 (sym one ∙ e)) ∙ changed (λ c. record c { reach = n })
+      sym (same _ m2 (sym (reach_done n) ∙ e)) ∙ changed (λ c. record c { reach = n })
 
   place_last : (m2 : ModelState) (name : Option (List ℕ)) (group : Option ℕ) → group_named m name ≡ Ok group
       → edited (with_criterion m x) (place x.name name) ≡ Ok m2 → m2 ≡ with_criterion m (record x { group = group })
   place_last m2 name group named e =
-      let one : edited (with_criterion m x) (place x.name name) ≡ Ok (with_change (with_criterion m x) (length m.criteria) (λ c. record c { group = group }))
-      = rw (found_last, named) refl in
-      sym (same _ m2 (sym one ∙ e)) ∙ changed (λ c. record c { group = group })
+      sym (same _ m2 (sym (place_done name group named) ∙ e)) ∙ changed (λ c. record c { group = group })
+
+-- an edit that takes no memory is done where it gives a model
+pub is_done : (m new : ModelState) (edit : Edit) (r : Result (Unit {0}) EditFault) → takes_memory edit ≡ false
+    → (n : ModelState) × (edited m edit ≡ Ok n) → Edits m edit r new → r ≡ Ok tt
+is_done m new edit (Ok x) none gives h = refl
+is_done m new edit (Err fault) none gives h = absurd (refuted h.1)
+  where
+    refuted : (edited m edit ≡ Err fault) ⊎ ((fault ≡ NoMemory) × (takes_memory edit ≡ true)) → ⊥
+    refuted (inl refused) = absurd (let e : done gives.0 ≡ Err fault = sym gives.1 ∙ refused in cc)
+    refuted (inr memory) = absurd (let e : true ≡ false = sym memory.1 ∙ none in cc)
 
 -- the criterion with its first parts, and with more of them
 module _ (c : CriterionState) where
@@ -124,6 +141,15 @@ module _ (c : CriterionState) where
 
   abbrev with_refs : CriterionState
   with_refs = record bare { good = c.good; neutral = c.neutral }
+
+module _ (m m1 : ModelState) (c : CriterionState) (keeps : IsCriterion c) (g k : List ℕ)
+    (at_g : find_element c g ≡ Some c.good) (at_k : find_element c k ≡ Some c.neutral)
+    (add : edited m (add_criterion c.name c.elements) ≡ Ok m1) where
+  pub refs_given : (n : ModelState) × (edited m1 (set_refs c.name g k) ≡ Ok n)
+  refs_given =
+      let new = added m m1 c.name c.elements add in
+      let gives = refs_done m (bare c) new.0 g k c.good c.neutral at_g at_k keeps.above in
+      (_, ap (λ n. edited n (set_refs c.name g k)) new.1 ∙ gives)
 
 module _ (m m1 m2 : ModelState) (c : CriterionState) (keeps : IsCriterion c) (g k : List ℕ)
     (at_g : find_element c g ≡ Some c.good) (at_k : find_element c k ≡ Some c.neutral)
@@ -143,14 +169,29 @@ module _ (m m1 m2 : ModelState) (c : CriterionState) (keeps : IsCriterion c) (g 
       ap (λ n. matrix_size n c.name) after_refs ∙ size_last m (with_refs c) free keeps.free_name in
       rw size keeps.size
 
+  pub matrix_given : (n : ModelState) × (edited m2 (set_matrix c.name c.matrix) ≡ Ok n)
+  matrix_given = (_, ap (λ n. edited n (set_matrix c.name c.matrix)) after_refs ∙ matrix_done m (with_refs c) free c.matrix keeps.free_name)
+
+  module _ (m3 : ModelState) (matrix : edited m2 (set_matrix c.name c.matrix) ≡ Ok m3) where
+    after_matrix : m3 ≡ with_criterion m (record (with_refs c) { matrix = c.matrix })
+    after_matrix =
+        let second = subst (λ n. edited n (set_matrix c.name c.matrix) ≡ Ok m3) after_refs matrix in
+        matrix_last m (with_refs c) free m3 c.matrix keeps.free_name second
+
+    pub reach_given : (n : ModelState) × (edited m3 (set_reach c.name c.reach) ≡ Ok n)
+    reach_given =
+        (_, ap (λ n. edited n (set_reach c.name c.reach)) after_matrix ∙ reach_done m (record (with_refs c) { matrix = c.matrix }) free c.reach)
+
   module _ (m3 m4 : ModelState) (matrix : edited m2 (set_matrix c.name c.matrix) ≡ Ok m3) (reach : edited m3 (set_reach c.name c.reach) ≡ Ok m4) where
     -- all but the group
     after_reach : m4 ≡ with_criterion m (record c { group = None })
     after_reach =
-        let second = subst (λ n. edited n (set_matrix c.name c.matrix) ≡ Ok m3) after_refs matrix in
-        let after_matrix = matrix_last m (with_refs c) free m3 c.matrix keeps.free_name second in
-        let third = subst (λ n. edited n (set_reach c.name c.reach) ≡ Ok m4) after_matrix reach in
+        let third = subst (λ n. edited n (set_reach c.name c.reach) ≡ Ok m4) (after_matrix m3 matrix) reach in
         reach_last m (record (with_refs c) { matrix = c.matrix }) free m4 c.reach third
+
+    pub place_given : (name : Option (List ℕ)) → group_named m name ≡ Ok c.group → (n : ModelState) × (edited m4 (place c.name name) ≡ Ok n)
+    place_given name named =
+        (_, ap (λ n. edited n (place c.name name)) after_reach ∙ place_done m (record c { group = None }) free name c.group named)
 
     pub after_place : (m5 : ModelState) (name : Option (List ℕ)) → group_named m name ≡ Ok c.group
         → edited m4 (place c.name name) ≡ Ok m5 → m5 ≡ with_criterion m c

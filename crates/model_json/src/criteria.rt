@@ -376,7 +376,7 @@ fn bytes_of(name: &Option<Name>) -> Option<&[u8]>
 }
 
 // Adds a criterion with these parts, which have these names. What can refuse an edit was checked before, so that only
-// memory may be wanting.
+// memory may be wanting, and that by the first edit alone.
 fn add_named(model: &mut Model, parts: Parts, names: &Names) -> Result<(), Stop>
     requires name { names.now.name ≡ parts.name }
     requires good { find_element parts names.now.good ≡ Some parts.good }
@@ -389,16 +389,16 @@ fn add_named(model: &mut Model, parts: Parts, names: &Names) -> Result<(), Stop>
         return Err(Stop::NoMemory);
     };
     let Ok(()) = model.set_refs(name, names.good.as_bytes(), names.neutral.as_bytes()) else {
-        return Err(Stop::NoMemory);
+        unreachable!()
     };
     let Ok(()) = model.set_matrix(name, parts.matrix) else {
-        return Err(Stop::NoMemory);
+        unreachable!()
     };
     let Ok(()) = model.set_reach(name, parts.reach) else {
-        return Err(Stop::NoMemory);
+        unreachable!()
     };
     let Ok(()) = model.place(name, bytes_of(&names.group)) else {
-        return Err(Stop::NoMemory);
+        unreachable!()
     };
     Ok(())
 }

@@ -86,8 +86,8 @@ fn set_weighting(model: &mut Model, swings: Matrix) -> Result<(), Stop>
     ensures { Reads result (Ok (with_weighting model.old swings)) model.new }
 {
     // The matrix of the weighting is always there.
-    match model.set_matrix(b"weighting", swings) {
-        Ok(()) => Ok(()),
-        Err(_) => Err(Stop::NoMemory),
-    }
+    let Ok(()) = model.set_matrix(b"weighting", swings) else {
+        unreachable!()
+    };
+    Ok(())
 }
