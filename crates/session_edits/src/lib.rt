@@ -9,6 +9,7 @@ mod matrices;
 mod names;
 mod question;
 mod refusal;
+pub mod refusal_laws;
 mod scales;
 mod scores;
 mod session;
