@@ -14,3 +14,6 @@ pub mod TextLemmas
 pub mod SplitLemmas
 pub mod SubjectLemmas
 pub mod HoldLemmas
+pub mod SumLemmas
+pub mod MeaningLemmas
+pub mod QueryLemmas

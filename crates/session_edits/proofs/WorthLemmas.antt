@@ -35,13 +35,13 @@ joined : (a b : Bool) → a ≡ true → b ≡ true → (a && b) ≡ true
 joined true b h k = k
 joined false b h k = absurd (cc)
 
-all_zero : (values : List Fraction) → list_all (λ (f : Fraction). int_eq f.num (pos 0)) values ≡ true → AreAllZero values
+pub all_zero : (values : List Fraction) → list_all (λ (f : Fraction). int_eq f.num (pos 0)) values ≡ true → AreAllZero values
 all_zero [] h = All-nil (λ (f : Fraction). f.num ≡ pos 0)
 all_zero (f ∷ fs) h =
     let k = both (int_eq f.num (pos 0)) (list_all (λ (g : Fraction). int_eq g.num (pos 0)) fs) h in
     All-cons (λ (g : Fraction). g.num ≡ pos 0) f fs ((Decides-int_eq f.num (pos 0)).0 k.0) (all_zero fs k.1)
 
-are_zero : (values : List Fraction) → AreAllZero values → list_all (λ (f : Fraction). int_eq f.num (pos 0)) values ≡ true
+pub are_zero : (values : List Fraction) → AreAllZero values → list_all (λ (f : Fraction). int_eq f.num (pos 0)) values ≡ true
 are_zero [] h = refl
 are_zero (f ∷ fs) h =
     joined (int_eq f.num (pos 0)) (list_all (λ (g : Fraction). int_eq g.num (pos 0)) fs)

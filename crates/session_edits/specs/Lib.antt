@@ -7,3 +7,4 @@ pub mod Scores
 pub mod Groups
 pub mod Texts
 pub mod Answer
+pub mod Meaning
