@@ -6,7 +6,6 @@ use Rattle.std.proofs.lemmas.Option.{get_or_from_slice_get}
 use Rattle.judgement_matrix.specs.Matrix.{Judgements, unjudged}
 use Rattle.model_core.specs.Lists.{changed_at}
 use Rattle.model_core.specs.declared.limits.TheConstants.{CRITERIA, GROUPS}
-use Rattle.model_core.proofs.RosterLemmas.{length-changed}
 use Rattle.integers.specs.Counting.{IsOrder}
 use Rattle.model_core.specs.State.{CriterionState, GroupState, ModelState, IsModel, AreGroups, no_criterion, elements_of, parent_of}
 
@@ -73,6 +72,12 @@ IsModel-recast m cs gs is each same few groups placed = record {
   groups_are = groups;
   placed = placed;
 }
+
+-- a change of one thing leaves their number
+pub length-changed : {T : Type 0} (f : T → T) (xs : List T) (i : ℕ) → length (changed_at f xs i) ≡ length xs
+length-changed f [] i = refl
+length-changed f (x ∷ xs) zero = refl
+length-changed f (x ∷ xs) (suc i) = ap suc (length-changed f xs i)
 
 -- a change of a criterion that leaves its elements
 module _ (f : CriterionState → CriterionState) (keeps : (x : CriterionState) → (f x).elements ≡ x.elements) where

@@ -154,8 +154,3 @@ module _ {T : Type 0} (f : T → T) where
   pub changed_all : (xs : List T) → map f (take (length xs) xs) ++ drop (length xs) xs ≡ map f xs
   changed_all [] = refl
   changed_all (x ∷ xs) = ap (λ ys. f x ∷ ys) (changed_all xs)
-
-  pub length-changed : (xs : List T) (i : ℕ) → length (changed_at f xs i) ≡ length xs
-  length-changed [] i = refl
-  length-changed (x ∷ xs) zero = refl
-  length-changed (x ∷ xs) (suc i) = ap suc (length-changed xs i)

@@ -20,7 +20,6 @@ use Rattle.model_core.specs.Whole.{IsWholeCriterion, IsWholeModel, IsLawful}
 use Rattle.model_core.specs.declared.limits.TheConstants.{OPTIONS, CRITERIA, GROUPS, LEAST_REACH, MOST_REACH, NEW_REACH}
 use Rattle.model_core.specs.declared.edit.EditFault.{EditFault}
 use Rattle.model_core.specs.declared.edit.EditFault.TheVariants.{AgainstOrder, UnknownElement, UnknownCriterion, UnknownGroup}
-use Rattle.model_core.proofs.RosterLemmas.{length-changed}
 use Rattle.model_core.proofs.OrderLemmas.{IsOrder-tested}
 use Rattle.model_core.proofs.KeepLemmas.{IsModel-empty, IsModel-changed, set-changed}
 use Rattle.model_core.proofs.CriterionLemmas.{All-map, IsModel-wider, IsModel-grouped_wider, IsModel-narrower}

@@ -1,6 +1,7 @@
 use Rattle.std.proofs.Common.{◌<◌, length, ap, ◌∙◌, rules}
 use Rattle.model_core.specs.Lists.{changed_at}
-use Rattle.model_core.proofs.RosterLemmas.{changed_more, length-changed}
+use Rattle.model_core.proofs.KeepLemmas.{length-changed}
+use Rattle.model_core.proofs.RosterLemmas.{changed_more}
 use Rattle.model_core.proofs.roster.Roster.change_each.Goals as goal
 
 pub loop-at-preserved : goal.loop-at-preserved
