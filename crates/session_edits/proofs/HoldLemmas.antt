@@ -1,11 +1,10 @@
 -- Each answer in a state that holds leaves a state that holds.
-use Rattle.std.proofs.Common.{◌≡◌, ℕ, ◌+◌, ◌≤◌, Bool, true, false, cond, List, [], ◌∷◌, ◌++◌, map, length, Option, Some, None, Result, Ok, Err, MatchBool, refl, sym, subst, ◌∙◌, ap, arith, length-append, codes}
+use Rattle.std.proofs.Common.{◌≡◌, ℕ, ◌+◌, Bool, true, false, cond, List, [], ◌∷◌, length, Option, Some, None, Result, Ok, Err, MatchBool, refl, sym, subst, ◌∙◌, ap, arith, length-append, codes}
 use Rattle.std.specs.Prelude.{MatchOption, ◌==◌, nat_lt}
 use Rattle.std.specs.Option.{option_map}
 use Rattle.std.specs.Str.{bytes_eq}
 use Rattle.std.proofs.lemmas.List.{length-map}
 use Rattle.integers.specs.Fraction.{Fraction}
-use Rattle.frac128.specs.declared.number.TooWide.{TooWide}
 use Rattle.judgement_matrix.specs.Matrix.{Judgements, IsMatrix, IsSize}
 use Rattle.command_read.specs.Later.{is_done_later}
 use Rattle.command_read.specs.declared.block.Held.{Held}
@@ -23,16 +22,15 @@ use Rattle.model_json.specs.Text.{load_of}
 use Rattle.model_json.specs.declared.fault.LoadFault.{LoadFault}
 use Rattle.model_json.specs.declared.fault.LoadFault.TheVariants as load_fault
 use Rattle.model_json.proofs.WholeLoads.{loads_whole}
-use Rattle.table_csv.specs.Table.{Imports, table_matrix}
+use Rattle.table_csv.specs.Table.{Imports}
 use Rattle.table_csv.specs.declared.fault.TableFault.{TableFault}
 use Rattle.table_csv.specs.declared.fault.TableFault.TheVariants as table_fault
 use Rattle.table_csv.proofs.MatrixLemmas.{IsMatrix-in}
-use Rattle.value_scale.specs.declared.basic.Basic.{Basic}
 use Rattle.report_text.specs.declared.reply.Detail.{Detail}
 use Rattle.report_text.specs.declared.reply.Reply.{Reply}
 use Rattle.report_text.specs.declared.reply.Reply.TheVariants as reply
 use Rattle.session_state.specs.State.{ResultsState, SessionState, IsSession, AreResults, matrix_of, changed, undone, with_results}
-use Rattle.session_state.specs.Taking.{IsSubject, Takes}
+use Rattle.session_state.specs.Taking.{IsSubject}
 use Rattle.session_state.specs.declared.subject.Subject.{Subject}
 use Rattle.session_state.specs.declared.subject.Subject.TheVariants.{Criterion, Weighting}
 use Rattle.session_state.proofs.SessionLemmas.{IsSession-changed, IsSession-undone, IsSession-taken, AreResults-taken, subject_matrix}
@@ -40,7 +38,7 @@ use Rattle.session_edits.specs.Subjects.{criterion_named, weighting_of, matrix_n
 use Rattle.session_edits.specs.Edits.{edit_of, Shows, Refuses, OfBlock, AnswersEdited, AnswersUndone}
 use Rattle.session_edits.specs.Matrices.{TellsFit, Fits, ReadsCertificate}
 use Rattle.session_edits.specs.Scales.{Asks, worth_of}
-use Rattle.session_edits.specs.Scores.{TakesAll, TakesBehind, AsksAll, WherePerformed, WhereWeighed, TellsScores, TellsSubtotals, missing, option_places, checked_scores, checked_subtotals}
+use Rattle.session_edits.specs.Scores.{TakesAll, TakesBehind, AsksAll, WherePerformed, WhereWeighed, TellsSubtotals, missing, option_places, checked_scores, checked_subtotals}
 use Rattle.session_edits.specs.Texts.{ReadsModel, AnswersRead, AnswersTable, ReadsTable}
 use Rattle.session_edits.specs.Answer.{Of, OfElement, element_named, AsksSlack, Tells, AnswersBy, Answer}
 use Rattle.session_edits.specs.declared.question.Question.{Question}

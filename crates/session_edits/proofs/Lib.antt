@@ -14,6 +14,9 @@ pub mod TextLemmas
 pub mod SplitLemmas
 pub mod SubjectLemmas
 pub mod HoldLemmas
+pub mod DueLemmas
+pub mod OrderLemmas
+pub mod InOrder
 pub mod SumLemmas
 pub mod MeaningLemmas
 pub mod QueryLemmas

@@ -1,5 +1,5 @@
 -- What replies say, from the formulas that they are worked by.
-use Rattle.std.proofs.Common.{◌≡◌, ◌⊎◌, inl, inr, ℕ, ◌+◌, ◌-◌, ◌<◌, ◌≤◌, ℤ, pos, ◌*ℤ◌, Bool, true, false, cond, List, [], ◌∷◌, ◌++◌, map, length, get_or, All, Option, Some, None, Result, Ok, Err, refl, sym, subst, ap, ◌∙◌, arith}
+use Rattle.std.proofs.Common.{◌≡◌, ◌⊎◌, inl, inr, ℕ, ◌+◌, ◌<◌, ◌≤◌, pos, Bool, true, false, cond, List, [], ◌∷◌, map, length, get_or, All, Option, Some, None, Result, Ok, Err, refl, sym, subst, arith}
 use Rattle.std.specs.List.{range_with_len, zip, list_all, AllByRecursion}
 use Rattle.std.specs.Option.{option_map_or}
 use Rattle.std.specs.Ordering.{int_eq}
@@ -9,9 +9,8 @@ use Rattle.integers.specs.Fraction.{Fraction, IsFraction, AreFractions, fraction
 use Rattle.integers.proofs.FractionSums.{IsFraction-whole}
 use Rattle.frac128.specs.declared.number.TooWide.{TooWide}
 use Rattle.judgement_matrix.specs.Matrix.{Judgements, IsMatrix}
-use Rattle.judgement_matrix.specs.Scale.{IsInconsistent}
 use Rattle.judgement_matrix.specs.Values.{fraction_at}
-use Rattle.value_scale.specs.Anchor.{checked_anchor, checked_each, IsFlat}
+use Rattle.value_scale.specs.Anchor.{checked_anchor, IsFlat}
 use Rattle.frac128.specs.Problem.{IsSpanCertificate, IsFarkasCertificate}
 use Rattle.frac128.specs.declared.problem.Cert.{Cert}
 use Rattle.lp_macbeth.specs.Rows.{problem_of}
@@ -26,7 +25,6 @@ use Rattle.value_scale.proofs.ReducedLemmas.{reduced_are_fractions}
 use Rattle.value_scale.proofs.AnchorLemmas.{checked_anchor-means, checked_anchor-reduced}
 use Rattle.value_scale.proofs.SlackLemmas.{checked_slack-means, checked_slack-low}
 use Rattle.swing_weights.specs.Weights.{checked_weights, AreFalling, AreAllZero}
-use Rattle.swing_weights.specs.Score.{checked_score}
 use Rattle.swing_weights.proofs.WeightLemmas.{checked_weights-means, checked_weights-reduced}
 use Rattle.swing_weights.proofs.ScoreLemmas.{checked_score-means, checked_score-fraction}
 use Rattle.model_core.specs.State.{ModelState, CriterionState}
@@ -42,11 +40,11 @@ use Rattle.session_state.specs.Taking.{IsSubject, Takes}
 use Rattle.session_state.specs.declared.subject.Subject.{Subject}
 use Rattle.session_state.specs.declared.subject.Subject.TheVariants.{Criterion, Weighting}
 use Rattle.session_state.proofs.SessionLemmas.{taken_is_basic, AreResults-taken, subject_matrix}
-use Rattle.session_edits.specs.Refusals.{refused, or_too_wide, or_refused, place_of, ◌>>=◌}
-use Rattle.session_edits.specs.Subjects.{names_of, places, all_subjects, weighed_names}
-use Rattle.session_edits.specs.Scales.{named, is_same_value, anchored_of, weights_of, worth_of_values, values_of, worth_of_basic, worth_of, worth_reply, checked_worth, checked_room, told, AsksFrom, Asks}
+use Rattle.session_edits.specs.Refusals.{refused, or_too_wide, or_refused, ◌>>=◌}
+use Rattle.session_edits.specs.Subjects.{names_of, places, all_subjects}
+use Rattle.session_edits.specs.Scales.{named, is_same_value, anchored_of, weights_of, worth_of_values, worth_of_basic, worth_of, worth_reply, checked_room, told, AsksFrom, Asks}
 use Rattle.session_edits.specs.Scores.{with_worth, TakesAll, TakesBehind, AsksAll, AsksAllFrom, anchored_at, weight_at, value_at, partial_score, score_of, option_places, each_score, checked_scores, checked_parts, checked_subtotals, criteria_under, group_names, performance}
-use Rattle.session_edits.specs.Meaning.{AreLeast, ProvesSpan, Refutes, SaysScale, SaysCert, IsWorthBy, IsWorth, IsFlatBy, HasNoWorth, SaysAnchored, SaysWeights, SaysSlack, AreWorths, IsSumOver, AreEach, HasNoScore, SaysScores, SaysSubtotals}
+use Rattle.session_edits.specs.Meaning.{AreLeast, ProvesSpan, Refutes, SaysScale, SaysCert, IsWorth, HasNoWorth, SaysAnchored, SaysWeights, SaysSlack, AreWorths, IsSumOver, HasNoScore, SaysScores, SaysSubtotals}
 use Rattle.session_edits.proofs.SubjectLemmas.{all_are_subjects}
 use Rattle.session_edits.proofs.SumLemmas.{read_fraction, read_worth, each_worked}
 use Rattle.session_edits.proofs.WorthLemmas.{all_zero, are_zero}

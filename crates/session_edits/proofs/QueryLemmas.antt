@@ -1,5 +1,5 @@
 -- What the reply to each query says, in a state that holds.
-use Rattle.std.proofs.Common.{◌≡◌, ◌⊎◌, inl, inr, ℕ, ◌+◌, ◌<◌, ◌≤◌, Bool, true, false, cond, List, [], ◌∷◌, length, Option, Some, None, MatchBool, Result, Ok, Err, refl, sym, subst, ap, ◌∙◌, arith}
+use Rattle.std.proofs.Common.{◌≡◌, ◌⊎◌, inl, inr, ℕ, ◌<◌, ◌≤◌, true, false, cond, List, [], ◌∷◌, length, Option, Some, None, MatchBool, Result, Ok, Err, sym, subst, ap, ◌∙◌, arith}
 use Rattle.std.specs.Prelude.{MatchOption, nat_lt}
 use Rattle.std.specs.Option.{option_map}
 use Rattle.std.proofs.lemmas.Bool.Decides.{nat_tests}
@@ -14,18 +14,15 @@ use Rattle.command_read.specs.declared.command.Command.TheVariants as command
 use Rattle.model_core.specs.State.{ModelState}
 use Rattle.model_core.specs.Finding.{find_option, find_criterion, find_element, criterion_at}
 use Rattle.model_core.proofs.WholeEdits.{criterion_within, place_within, whole_at}
-use Rattle.report_text.specs.declared.reply.Detail.{Detail}
-use Rattle.report_text.specs.declared.reply.Detail.TheVariants as detail
 use Rattle.report_text.specs.declared.reply.Reply.{Reply}
 use Rattle.report_text.specs.declared.reply.Reply.TheVariants as reply
-use Rattle.session_state.specs.State.{SessionState, IsSession, matrix_of, changed, undone}
-use Rattle.session_state.specs.Taking.{IsSubject}
+use Rattle.session_state.specs.State.{SessionState, IsSession, changed, undone}
 use Rattle.session_state.specs.declared.subject.Subject.{Subject}
 use Rattle.session_state.specs.declared.subject.Subject.TheVariants.{Criterion, Weighting}
 use Rattle.session_state.proofs.SessionLemmas.{undone_of_changed}
 use Rattle.session_state.specs.declared.history.TheConstants.{UNDO_STEPS}
 use Rattle.session_edits.specs.Refusals.{refused, number_of}
-use Rattle.session_edits.specs.Subjects.{criterion_named, weighting_of, names_of}
+use Rattle.session_edits.specs.Subjects.{criterion_named, weighting_of}
 use Rattle.session_edits.specs.Edits.{Shows, Refuses, AnswersEdited, AnswersUndone, edit_of}
 use Rattle.session_edits.specs.Scales.{Asks}
 use Rattle.session_edits.specs.Scores.{TellsSubtotals, AsksAll, WherePerformed, WhereWeighed, missing, option_places, checked_scores, checked_subtotals}

@@ -7,4 +7,5 @@ pub mod Scores
 pub mod Groups
 pub mod Texts
 pub mod Answer
+pub mod Due
 pub mod Meaning

@@ -1,5 +1,5 @@
 //! Laws of answers, as contracts of functions that do nothing.
-ghost use Rattle.std.specs.Prelude.{◌≡◌, ◌⊎◌, ℕ, ◌<◌, ◌≤◌, List, [], ◌∷◌, length, Some, None, false};
+ghost use Rattle.std.specs.Prelude.{◌≡◌, ◌⊎◌, ℕ, ◌<◌, ◌≤◌, List, [], ◌∷◌, length, Some, None, false, Contains};
 ghost use Rattle.judgement_matrix.specs.Matrix.{Judgements};
 ghost use Rattle.judgement_matrix.specs.Scale.{IsInconsistent};
 ghost use Rattle.model_core.specs.Edits.{Edit};
@@ -16,6 +16,7 @@ ghost use Rattle.report_text.specs.declared.reply.Reply.{Reply};
 ghost use Rattle.session_state.specs.State.{SessionState, IsSession, start_state};
 ghost use Rattle.session_state.specs.declared.history.TheConstants.{UNDO_STEPS};
 ghost use Rattle.session_edits.specs.Answer.{Answer};
+ghost use Rattle.session_edits.specs.Due.{due, found_later, IsRefusedBy};
 ghost use Rattle.session_edits.specs.Edits.{edit_of};
 ghost use Rattle.session_edits.specs.Meaning.{SaysScale, SaysCert, IsToldInconsistent, SaysAnchored, SaysSlack, SaysWeights, SaysScores, SaysSubtotals};
 ghost use Rattle.session_edits.specs.Refusals.{refused};
@@ -120,4 +121,18 @@ pub fn undo_brings_back()
         → Answer s command Reply.Ok mid → Answer mid Undo reply next
         → (reply ≡ Reply.Ok) × (next.model ≡ s.model)
         × (length s.history < UNDO_STEPS → next.history ≡ s.history) }
+{}
+
+/// States that refusals come in the one order: the first cause that stands, of those that a command may
+/// have, gives the refusal. Where none stands, an edit is accepted, and what else is asked is refused
+/// only for a text's contents or by what is found in computing. It does nothing.
+pub fn refusals_in_order()
+    ensures first { (s next : SessionState) (command : Command) (reply : Reply) (number : ℕ)
+        → Answer s command reply next → due s command ≡ Some number → IsRefusedBy number reply }
+    ensures later { (s next : SessionState) (command : Command) (reply : Reply) (number : ℕ)
+        → Answer s command reply next → due s command ≡ None → IsRefusedBy number reply
+        → Contains (found_later command) number }
+    ensures accepted { (s next : SessionState) (command : Command) (edit : Edit) (reply : Reply)
+        → edit_of command ≡ Some edit → Answer s command reply next → due s command ≡ None
+        → reply ≡ Reply.Ok }
 {}
