@@ -1,0 +1,1 @@
+"""What `.ci/outside` is made of."""
