@@ -1,11 +1,12 @@
+//! A session whose source gives 7 bytes at a time and whose sink takes 5, with each fault in turn.
 use super::{ROOM, run_into, told_from};
 use line_io::{MemSink, MemSource};
 use std::alloc::Global;
 use std::test::Fail;
 use transcript::Status;
 
-/// The lines of a session, each with its reply.
-const HOUSING: [(&str, &str); 21] = [
+/// The entries of a session, a line or one with its block, each with its reply.
+const HOUSING: [(&str, &str); 22] = [
     ("criterion Rent 600 700 850 1000\n", "ok\n"),
     ("refs Rent 700 1000\n", "ok\n"),
     ("judge Rent 600 700 weak\n", "ok\n"),
@@ -39,6 +40,10 @@ const HOUSING: [(&str, &str); 21] = [
     ("weigh Rent \"Way to work\" weak\n", "ok\n"),
     ("weigh \"Way to work\" none strong\n", "ok\n"),
     (
+        "import Rent\n,600,700,850,1000\n600,,2,,\n700,,,3,\n850,,,,4\n1000,,,,\nend\n",
+        "ok\n",
+    ),
+    (
         "anchored Rent\n",
         "anchored 4\n\"600\" 900/7 128.57\n\"700\" 100 100.00\n\"850\" 400/7 57.14\n\"1000\" 0 0.00\n",
     ),
@@ -62,7 +67,7 @@ fn housing_input(alloc: Global) -> Result<Vec<u8>, Fail> {
     Ok(input)
 }
 
-/// The replies to the lines that are whole in so many of its first bytes.
+/// The replies to the entries that are whole in so many of its first bytes.
 fn housing_output(alloc: Global, taken: usize) -> Result<Vec<u8>, Fail> {
     let mut output = Vec::new(alloc);
     let mut left = taken;
@@ -118,13 +123,13 @@ fn each_put_fails_in_turn(rt: HostRuntime) -> Result<(), Fail> {
     let alloc = rt.alloc();
     let whole = housing_output(alloc, ROOM)?;
     // So many puts of at most 5 bytes are made.
-    for puts in 0..56_u64 {
+    for puts in 0..57_u64 {
         let (status, text) = housing_write(alloc, puts.saturating_add(1))?;
         assert_eq!(rt; status, Status::WriteFault, "{puts}");
         assert!(rt; whole.starts_with(&text), "{puts}");
         assert!(rt; text.len() < whole.len(), "{puts}");
     }
-    let (status, text) = housing_write(alloc, 57)?;
+    let (status, text) = housing_write(alloc, 58)?;
     assert_eq!(rt; status, Status::Done);
     assert_eq!(rt; text.as_slice(), whole.as_slice());
     Ok(())
