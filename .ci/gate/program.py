@@ -110,10 +110,9 @@ class Running:
     def __exit__(
         self, kind: Optional[Type[BaseException]], why: Optional[BaseException], trace: Optional[TracebackType]
     ) -> None:
-        # Those that it started go too.
-        with suppress(ProcessLookupError):
-            os.killpg(self.process.pid, signal.SIGKILL)
-        self.process.wait()
+        if self.process.poll() is None:
+            os.killpg(self.process.pid, signal.SIGKILL)  # those that it started go too
+            self.process.wait()
         self.selector.close()
         for pipe in (self.process.stdin, self.process.stdout, self.process.stderr):
             if pipe is not None and not pipe.closed:
