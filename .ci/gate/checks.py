@@ -4,11 +4,13 @@ from __future__ import annotations
 
 import json
 import os
+import re
 import tempfile
 from dataclasses import replace
 from typing import Any, Callable, Dict, List, Tuple
 
 from gate.program import EXAMPLES, FIRST, FIRST_REPLIES, TOP, Program, Wrong, expect, expect_end, packets
+from gate.sessions import cases_of
 
 Check = Callable[[Program], None]
 
@@ -21,6 +23,15 @@ def each_example_gives_its_transcript(program: Program) -> None:
             expect_end(ended, 0, session.with_suffix(".transcript").read_bytes())
         except Wrong as why:
             raise Wrong(f"{session.name}: {why}") from None
+
+
+def the_readme_shows_what_is_answered(program: Program) -> None:
+    """The first block of the README is a session as a file of sessions has it."""
+    shown = re.search(rb"\n((?: {4}.*\n)+)", (TOP / "README.md").read_bytes())
+    if shown is None:
+        raise Wrong("there is no block")
+    for case in cases_of(b"== its session\n" + re.sub(rb"(?m)^ {4}", b"", shown[1])):
+        case.holds(program)
 
 
 def no_input_is_a_session_without_lines(program: Program) -> None:
@@ -223,6 +234,7 @@ def a_greatest_model_takes_no_more(program: Program) -> None:
 
 CHECKS: List[Check] = [
     each_example_gives_its_transcript,
+    the_readme_shows_what_is_answered,
     no_input_is_a_session_without_lines,
     a_cut_input_is_answered_as_a_whole_one,
     a_reply_comes_before_the_next_line_is_sent,
