@@ -31,6 +31,7 @@ case(
     ["#" * 65_536, "weigh-order" + " c" * 27_000, "quit"],
     ["refused 9 unknown criterion", "ok"],
 )
+case("a line too long", ["a" * 65_537, "quit"], ["refused 1 line too long", "ok"])
 LARGE, CUT = "refused 16 block too large", "refused 15 block cut by the end of input"
 block("a block as large as may be", "verify c", 16, ["end"], "refused 19 bad certificate text: 1")
 block("a block too large", "verify c", 16, ["", "end"], LARGE)

@@ -29,12 +29,7 @@ fn run_plainly<S: Source, K: Sink>(alloc: Global, source: &mut S, sink: &mut K) 
     run(alloc, &words, source, sink)
 }
 
-/// How a session of this input ends, and what it writes.
-fn told(alloc: Global, input: Vec<u8>) -> Result<(Status, Vec<u8>), Fail> {
-    let mut source = NeverSource::make(input);
-    told_from(alloc, &mut source)
-}
-
+/// How a session from this source ends, and what it writes.
 fn told_from<S: Source>(alloc: Global, source: &mut S) -> Result<(Status, Vec<u8>), Fail> {
     let mut sink = NeverSink::make(alloc, ROOM)?;
     let status = run_plainly(alloc, source, &mut sink);

@@ -1,6 +1,6 @@
 ghost use Rattle.std.specs.Prelude.{None, Option, List, ℕ};
 
-use super::{ABC, ROOM, bytes_of, run_into, told, told_from};
+use super::{ABC, ROOM, bytes_of, run_into, told_from};
 use crate::run::run;
 use crate::words::words_of;
 use line_io::{Failed, MemSink, MemSource, NeverSink, NeverSource, Sink};
@@ -56,29 +56,6 @@ fn words_that_are_not_known(rt: HostRuntime) -> Result<(), Fail> {
     let status = run(alloc, &words, &mut source, &mut sink);
     assert_eq!(rt; status, Status::BadWords);
     assert_eq!(rt; sink.bytes(), b"".as_slice());
-    Ok(())
-}
-
-#[test]
-fn an_empty_input(rt: HostRuntime) -> Result<(), Fail> {
-    let alloc = rt.alloc();
-    let (status, text) = told(alloc, Vec::new(alloc))?;
-    assert_eq!(rt; status, Status::Done);
-    assert_eq!(rt; text.as_slice(), b"".as_slice());
-    Ok(())
-}
-
-#[test]
-fn a_line_too_long(rt: HostRuntime) -> Result<(), Fail> {
-    let alloc = rt.alloc();
-    let mut long = vec![in alloc; b'a'; 65_537]?;
-    long.extend_from_slice(b"\nquit\n")?;
-    let (status, text) = told(alloc, long)?;
-    assert_eq!(rt; status, Status::Done);
-    assert_eq!(rt;
-        text.as_slice(),
-        b"refused 1 line too long\nok\n".as_slice()
-    );
     Ok(())
 }
 
