@@ -2,7 +2,7 @@
 use Rattle.std.proofs.Common.{◌≡◌, ℕ, List, [], ◌∷◌, ◌++◌, Result, Ok, Err, refl, sym, ap, ◌∙◌, append_assoc}
 use Rattle.integers.specs.Fraction.{Fraction}
 use Rattle.command_read.specs.Parts.{fraction, fractions}
-use Rattle.command_read.specs.Refusals.{◌>>=◌}
+use Rattle.frac128.specs.Chain.{◌>>=◌}
 use Rattle.command_read.specs.declared.refusal.Refusal.{Refusal}
 
 same_front : (front : List Fraction) (value : Fraction) (others : Result (List Fraction) Refusal)

@@ -10,7 +10,7 @@ use Rattle.std.proofs.lemmas.List.Elements.{All-nil, All-cons}
 use Rattle.integers.specs.Fraction.{Fraction, IsFraction, AreFractions}
 use Rattle.frac128.specs.Reader.{read_fraction}
 use Rattle.frac128.proofs.ReaderLemmas.{read_positive}
-use Rattle.command_read.specs.Refusals.{◌>>=◌}
+use Rattle.frac128.specs.Chain.{◌>>=◌}
 use Rattle.command_read.specs.Words.{first_word, words}
 use Rattle.command_read.specs.Verbs.{verb_of}
 use Rattle.command_read.specs.Parts.{name, new_name, names, range, reach, is_numeral, is_reach, fraction, fractions, values, ends_in_zero}

@@ -4,7 +4,7 @@ use Rattle.std.specs.Prelude.{ℕ, List, [], ◌∷◌, length, Option, Some, No
 use Rattle.std.specs.Str.{bytes_eq}
 use Rattle.integers.specs.Fraction.{Fraction}
 use Rattle.judgement_matrix.specs.Range.{Bounds}
-use Rattle.command_read.specs.Refusals.{◌>>=◌}
+use Rattle.frac128.specs.Chain.{◌>>=◌}
 use Rattle.command_read.specs.Parts.{name, new_name, names, range, reach, values}
 use Rattle.command_read.specs.declared.block.Held.{Held}
 use Rattle.command_read.specs.declared.refusal.Refusal.{Refusal}

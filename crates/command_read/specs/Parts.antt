@@ -13,7 +13,7 @@ use Rattle.model_core.specs.State.{is_reserved}
 use Rattle.model_core.specs.Categories.{range_of}
 use Rattle.model_core.specs.declared.limits.TheConstants.{LEAST_REACH, MOST_REACH}
 use Rattle.frac128.specs.Reader.{read_fraction}
-use Rattle.command_read.specs.Refusals.{◌>>=◌}
+use Rattle.frac128.specs.Chain.{◌>>=◌}
 use Rattle.command_read.specs.declared.refusal.Refusal.{Refusal}
 use Rattle.command_read.specs.declared.refusal.Refusal.TheVariants.{BadName, BadNumber, BadCategory}
 

@@ -3,7 +3,8 @@ use Rattle.std.specs.Prelude.{◌≡◌, ◌⊎◌, ℕ, Bool, true, false, ◌|
 use Rattle.std.specs.Option.{option_map_or}
 use Rattle.std.specs.Str.{bytes_eq, is_utf8}
 use Rattle.command_read.specs.Words.{first_word, words}
-use Rattle.command_read.specs.Refusals.{number_of, ◌>>=◌}
+use Rattle.frac128.specs.Chain.{◌>>=◌}
+use Rattle.command_read.specs.Refusals.{number_of}
 use Rattle.command_read.specs.Verbs.{verb_of}
 use Rattle.command_read.specs.Forms.{form}
 use Rattle.command_read.specs.declared.block.Held.{Held}

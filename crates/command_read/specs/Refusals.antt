@@ -14,11 +14,6 @@ number_of BadName = 5
 number_of BadNumber = 6
 number_of BadCategory = 7
 
-infixl 10 ◌>>=◌
-abbrev pub ◌>>=◌ : {A B : Type 0} → Result A Refusal → (A → Result B Refusal) → Result B Refusal
-(Ok x) >>= f = f x
-(Err refusal) >>= f = Err refusal
-
 -- a fault is want of memory, or the refusal that reading gives
 abbrev pub Fails : {A : Type 0} → Fault → Result A Refusal → Type 0
 Fails fault.NoMemory read = Unit {0}

@@ -2,7 +2,8 @@
 use Rattle.std.specs.Result.{IfOk}
 use Rattle.std.proofs.Common.{◌≢◌, Result, Ok, Err, pos}
 use Rattle.integers.specs.Fraction.{Fraction, IsFraction, SameFraction, fraction_sum, fraction_difference, fraction_product, fraction_quotient}
-use Rattle.frac128.specs.Checked.{◌>>=◌, IsExact, checked_sum, checked_difference, checked_product, checked_quotient, SumFits, DifferenceFits, ProductFits, QuotientFits}
+use Rattle.frac128.specs.Chain.{◌>>=◌}
+use Rattle.frac128.specs.Checked.{IsExact, checked_sum, checked_difference, checked_product, checked_quotient, SumFits, DifferenceFits, ProductFits, QuotientFits}
 use Rattle.frac128.specs.declared.number.TooWide.{TooWide}
 use Rattle.frac128.proofs.Checked.{checked_sum-exact, checked_difference-exact, checked_product-exact, checked_quotient-exact}
 

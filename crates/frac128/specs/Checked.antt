@@ -1,19 +1,15 @@
 -- Arithmetic of fractions that refuses numbers out of the range: what each call forms, and what it answers.
 -- A formula is a chain of these, as `do x ← checked_sum f g; checked_product x h`.
-use Rattle.std.specs.Prelude.{◌≡◌, true, false, List, [], ◌∷◌, ℤ, ◌+ℤ◌, ◌*ℤ◌, int_div, Result, Ok, Err, MatchResult, IsTrue}
+use Rattle.std.specs.Prelude.{true, false, List, [], ◌∷◌, ℤ, ◌+ℤ◌, ◌*ℤ◌, int_div, Result, Ok, Err, MatchResult, IsTrue}
 use Rattle.std.specs.List.{list_all, AllByRecursion}
 use Rattle.std.specs.Result.{is_err}
 use Rattle.integers.specs.Divisibility.{gcd_of}
 use Rattle.integers.specs.Fraction.{Fraction, SameFraction, fraction_sum, fraction_product}
+use Rattle.frac128.specs.Chain.{Returns}
+pub use Rattle.frac128.specs.Chain.{◌>>=◌}
 use Rattle.frac128.specs.Frac.{IsReduced, lowest_terms, opposite, reciprocal}
 use Rattle.frac128.specs.Range.{IsInRange, is_in_range}
 use Rattle.frac128.specs.declared.number.TooWide.{TooWide}
-
--- the result, or the first error
-infixl 10 ◌>>=◌
-abbrev pub ◌>>=◌ : {A B E : Type 0} → Result A E → (A → Result B E) → Result B E
-(Ok x) >>= f = f x
-(Err e) >>= f = Err e
 
 -- ---- the numbers that a call forms
 
@@ -83,5 +79,4 @@ checked_quotient f g = checked_product f (reciprocal g.num g.den)
 
 -- what the formula gives is answered, as it is seen, or a fault, which says something of whether the formula is too wide
 abbrev pub Gives : {V X E : Type 0} → (E → Type 0 → Type 0) → (V → X) → Result X TooWide → Result V E → Type 0
-Gives Says items worked (Ok given) = worked ≡ Ok (items given)
-Gives Says items worked (Err fault) = Says fault (IsTrue (is_err worked))
+Gives Says items worked result = Returns (λ fault formula. Says fault (IsTrue (is_err formula))) items worked result

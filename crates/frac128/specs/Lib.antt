@@ -1,3 +1,4 @@
+pub mod Chain
 pub mod Checked
 pub mod Decimal
 pub mod Entries

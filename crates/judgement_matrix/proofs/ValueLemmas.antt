@@ -11,7 +11,8 @@ use Rattle.integers.specs.Fraction.{Fraction, IsFraction, AreFractions, over, Sa
 use Rattle.integers.proofs.Order.{cancel_eq, cancel_le, cancel_lt, mul_pos, zero_of_mul}
 use Rattle.integers.proofs.Ring.{con, neg, ◌⊖◌, ◌⊗◌, ◌≗◌, ◌≼◌, ◌≺◌, ◌✶◌, ◌⇐◌, combine4, combine5, combine9, ring1}
 use Rattle.integers.proofs.Writings.{IsWriting-length, common_writing}
-use Rattle.frac128.specs.Checked.{◌>>=◌, checked_difference, DifferenceFits, IsExact}
+use Rattle.frac128.specs.Chain.{◌>>=◌}
+use Rattle.frac128.specs.Checked.{checked_difference, DifferenceFits, IsExact}
 use Rattle.frac128.specs.declared.number.TooWide.{TooWide}
 use Rattle.frac128.proofs.Checked.{checked_difference-exact}
 use Rattle.judgement_matrix.specs.Matrix.{Judgements, range_at}

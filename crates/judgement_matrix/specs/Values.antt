@@ -2,7 +2,8 @@
 -- answered for them.
 use Rattle.std.specs.Prelude.{◌≡◌, ◌⊎◌, ℕ, ◌+◌, ◌-◌, ℤ, pos, List, [], ◌∷◌, length, slice_index_or, Result, Ok, Err}
 use Rattle.integers.specs.Fraction.{Fraction, IsWriting}
-use Rattle.frac128.specs.Checked.{◌>>=◌, checked_difference}
+use Rattle.frac128.specs.Chain.{◌>>=◌}
+use Rattle.frac128.specs.Checked.{checked_difference}
 use Rattle.frac128.specs.declared.number.TooWide.{TooWide}
 use Rattle.judgement_matrix.specs.Matrix.{Judgements}
 use Rattle.judgement_matrix.specs.Rows.{rows, RowHolds, IsFit}

@@ -2,7 +2,7 @@
 use Rattle.std.specs.Prelude.{ℕ, ◌+◌, ◌-◌, ◌<◌, ◌≤◌, pos, ◌-ℤ◌, ◌*ℤ◌, int_lt, Bool, true, false, if◌then◌else◌, List, [], ◌∷◌, ◌++◌, map, Option, Some, None, Result, Ok, Err}
 use Rattle.std.specs.List.{flat_map, range_with_len}
 use Rattle.integers.specs.Fraction.{Fraction}
-use Rattle.frac128.specs.Checked.{◌>>=◌}
+use Rattle.frac128.specs.Chain.{◌>>=◌}
 use Rattle.frac128.specs.declared.number.TooWide.{TooWide}
 use Rattle.judgement_matrix.specs.Matrix.{Judgements, range_at}
 use Rattle.judgement_matrix.specs.Values.{constraint_value}

@@ -13,7 +13,8 @@ use Rattle.integers.proofs.Divisibility.{pos-unsigned_abs, int_div-mul, quotient
 use Rattle.integers.proofs.FractionOrder.{FractionAtMost-difference}
 use Rattle.integers.proofs.Order.{mul_pos, mul_nonneg, nonneg_of_mul, le_of_lt}
 use Rattle.integers.proofs.Ring.{con, neg, ◌⊗◌, ◌≗◌, ◌✶◌, ◌⇐◌, ring1, ring2, ring3, combine4, combine5}
-use Rattle.frac128.specs.Checked.{◌>>=◌, checked_difference}
+use Rattle.frac128.specs.Chain.{◌>>=◌}
+use Rattle.frac128.specs.Checked.{checked_difference}
 use Rattle.frac128.specs.Range.{IsInRange, is_in_range}
 use Rattle.frac128.specs.declared.number.TooWide.{TooWide}
 use Rattle.frac128.proofs.FormulaLemmas.{IfOk-bind, IsValued, checked_difference-value}

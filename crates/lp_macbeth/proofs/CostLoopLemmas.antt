@@ -5,7 +5,8 @@ use Rattle.std.proofs.Common.{◌≡◌, ℕ, ◌+◌, ◌<◌, ◌≤◌, ℤ, 
 use Rattle.std.proofs.lemmas.List.{append_assoc, at_drop_all, get_or_default}
 use Rattle.integers.specs.Fraction.{Fraction}
 use Rattle.integers.specs.Divisibility.{gcd_of}
-use Rattle.frac128.specs.Checked.{◌>>=◌, checked_difference, Gives}
+use Rattle.frac128.specs.Chain.{◌>>=◌}
+use Rattle.frac128.specs.Checked.{checked_difference, Gives}
 use Rattle.frac128.specs.declared.number.TooWide.{TooWide}
 use Rattle.lp_macbeth.specs.ClosedWeighting.{in_order, checked_whole, checked_excesses, checked_multiple, checked_numerators, checked_sums, checked_costs, FaultSays}
 use Rattle.lp_macbeth.specs.declared.weighting.WeightingFault.{WeightingFault}

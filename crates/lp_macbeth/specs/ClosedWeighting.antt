@@ -4,7 +4,8 @@
 use Rattle.std.specs.Prelude.{◌≡◌, ℕ, zero, suc, ◌-◌, true, false, ℤ, pos, ◌+ℤ◌, ◌*ℤ◌, int_div, neg_ℤ, List, [], ◌∷◌, ◌++◌, length, map, reverse, slice_index_or, All, Contains, Result, Ok, Err}
 use Rattle.std.specs.Ordering.{int_cmp}
 use Rattle.std.specs.declared.cmp.Ordering.TheVariants.{Less, Equal, Greater}
-use Rattle.frac128.specs.Checked.{◌>>=◌, checked_difference}
+use Rattle.frac128.specs.Chain.{◌>>=◌}
+use Rattle.frac128.specs.Checked.{checked_difference}
 use Rattle.frac128.specs.Problem.{ProblemData}
 use Rattle.frac128.specs.Range.{is_in_range}
 use Rattle.frac128.specs.declared.number.TooWide.{TooWide}

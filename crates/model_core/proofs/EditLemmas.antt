@@ -4,17 +4,18 @@ use Rattle.std.specs.Option.{option_map, option_and_then}
 use Rattle.std.proofs.lemmas.List.{append_assoc}
 use Rattle.model_core.specs.State.{ModelState}
 use Rattle.model_core.specs.Finding.{find_criterion}
-use Rattle.model_core.specs.Edits.{holds, ◌>>=◌, places_of}
+use Rattle.frac128.specs.Chain.{holds_or, ◌>>=◌}
+use Rattle.model_core.specs.Edits.{places_of}
 use Rattle.model_core.specs.declared.edit.EditFault.{EditFault}
 
 module _ {B : Type 0} (fault : EditFault) (b : Bool) (next : Unit {0} → Result B EditFault) where
   -- a condition that fails refuses
-  pub refused : b ≡ false → (holds fault b >>= next) ≡ Err fault
-  refused h = ap (λ t. holds fault t >>= next) h
+  pub refused : b ≡ false → (holds_or fault b >>= next) ≡ Err fault
+  refused h = ap (λ t. holds_or fault t >>= next) h
 
   -- one that holds leaves it to what follows
-  pub passed : b ≡ true → (holds fault b >>= next) ≡ next tt
-  passed h = ap (λ t. holds fault t >>= next) h
+  pub passed : b ≡ true → (holds_or fault b >>= next) ≡ next tt
+  passed h = ap (λ t. holds_or fault t >>= next) h
 
 -- the places of names, one after the other
 pub places_none : (m : ModelState) (name : List ℕ) (names : List (List ℕ)) (before : List ℕ) → find_criterion m name ≡ None

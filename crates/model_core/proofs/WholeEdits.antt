@@ -15,7 +15,8 @@ use Rattle.judgement_matrix.proofs.KeptMatrices.{IsMatrix-unjudged, IsMatrix-jud
 use Rattle.model_core.specs.Lists.{find, changed_at}
 use Rattle.model_core.specs.State.{CriterionState, GroupState, ModelState, IsModel, IsCriterion, no_criterion, elements_of, parent_of, empty_model, is_reserved}
 use Rattle.model_core.specs.Finding.{find_option, find_criterion, find_group, find_element, criterion_at, place_in, weigh_place, matrix_size}
-use Rattle.model_core.specs.Edits.{Edit, add_option, drop_option, add_criterion, drop_criterion, set_refs, judge, unjudge, perform, set_order, weigh, unweigh, set_reach, set_matrix, add_group, drop_group, place, ◌>>=◌, found, holds, edited, with_change, with_option, without_option, with_criterion, without_criterion, with_performance, with_order, with_weighting, with_group, without_group, regrouped, new_criterion, places_of, is_permutation, group_named, pair_of, weigh_pair}
+use Rattle.frac128.specs.Chain.{◌>>=◌, found_or, holds_or}
+use Rattle.model_core.specs.Edits.{Edit, add_option, drop_option, add_criterion, drop_criterion, set_refs, judge, unjudge, perform, set_order, weigh, unweigh, set_reach, set_matrix, add_group, drop_group, place, edited, with_change, with_option, without_option, with_criterion, without_criterion, with_performance, with_order, with_weighting, with_group, without_group, regrouped, new_criterion, places_of, is_permutation, group_named, pair_of, weigh_pair}
 use Rattle.model_core.specs.Whole.{IsWholeCriterion, IsWholeModel, IsLawful}
 use Rattle.model_core.specs.declared.limits.TheConstants.{OPTIONS, CRITERIA, GROUPS, LEAST_REACH, MOST_REACH, NEW_REACH}
 use Rattle.model_core.specs.declared.edit.EditFault.{EditFault}
@@ -34,11 +35,11 @@ Leaves (Ok after) = IsWholeModel after
 Leaves (Err fault) = Unit {0}
 
 after_found : {A : Type 0} (o : Option A) (fault : EditFault) (f : A → Result ModelState EditFault) → ((a : A) → o ≡ Some a → Leaves (f a))
-    → Leaves (found fault o >>= f)
+    → Leaves (found_or fault o >>= f)
 after_found None fault f h = tt
 after_found (Some a) fault f h = h a refl
 
-after_test : (b : Bool) (fault : EditFault) (f : Unit {0} → Result ModelState EditFault) → (b ≡ true → Leaves (f tt)) → Leaves (holds fault b >>= f)
+after_test : (b : Bool) (fault : EditFault) (f : Unit {0} → Result ModelState EditFault) → (b ≡ true → Leaves (f tt)) → Leaves (holds_or fault b >>= f)
 after_test true fault f h = h refl
 after_test false fault f h = tt
 
@@ -117,12 +118,12 @@ IsPairOf c (Err fault) = Unit {0}
 pair_within : (c : CriterionState) (x y : List ℕ) → IsPairOf c (pair_of c x y)
 pair_within c x y = by_places (find_element c x) (find_element c y) (λ e at. place_within c.elements x e at) (λ e at. place_within c.elements y e at)
   where
-    by_order : (p q : ℕ) (b : Bool) → nat_lt p q ≡ b → 1 ≤ p → q ≤ length c.elements → IsPairOf c (holds AgainstOrder b >>= λ above. Ok (p, q))
+    by_order : (p q : ℕ) (b : Bool) → nat_lt p q ≡ b → 1 ≤ p → q ≤ length c.elements → IsPairOf c (holds_or AgainstOrder b >>= λ above. Ok (p, q))
     by_order p q true is first last = (first, below p q is, last)
     by_order p q false is first last = tt
 
     by_places : (p q : Option ℕ) → ((e : ℕ) → p ≡ Some e → (1 ≤ e) × (e ≤ length c.elements)) → ((e : ℕ) → q ≡ Some e → (1 ≤ e) × (e ≤ length c.elements))
-        → IsPairOf c (found UnknownElement p >>= λ p. found UnknownElement q >>= λ q. holds AgainstOrder (nat_lt p q) >>= λ above. Ok (p, q))
+        → IsPairOf c (found_or UnknownElement p >>= λ p. found_or UnknownElement q >>= λ q. holds_or AgainstOrder (nat_lt p q) >>= λ above. Ok (p, q))
     by_places None q first second = tt
     by_places (Some p) None first second = tt
     by_places (Some p) (Some q) first second = by_order p q (nat_lt p q) refl (first p refl).0 (second q refl).1
@@ -317,7 +318,7 @@ module _ (m : ModelState) (is : IsWholeModel m) where
           → ((size : ℕ) → cond b (Some (length m.criteria + 1)) (option_map (λ c. length (criterion_at m c).elements) (find_criterion m name)) ≡ Some size
           → matrix.size ≡ size)
           → Leaves (cond b (Ok (with_weighting m matrix))
-          (found UnknownCriterion (find_criterion m name) >>= λ c. Ok (with_change m c (λ criterion. record criterion { matrix = matrix }))))
+          (found_or UnknownCriterion (find_criterion m name) >>= λ c. Ok (with_change m c (λ criterion. record criterion { matrix = matrix }))))
       by_name true size = weighing matrix (size (length m.criteria + 1) refl ∙ sym is.keeps.size) parts.0
       by_name false size =
           after_found (find_criterion m name) UnknownCriterion (λ c. Ok (with_change m c (λ criterion. record criterion { matrix = matrix })))
@@ -335,7 +336,7 @@ module _ (m : ModelState) (is : IsWholeModel m) where
       none_some g h = cc
   named_within (Some name) = by_group (find_group m name) (λ g at. group_within m name g at)
     where
-      by_group : (o : Option ℕ) → ((g : ℕ) → o ≡ Some g → g < length m.groups) → IsGroupOf (found UnknownGroup o >>= λ g. Ok (Some g))
+      by_group : (o : Option ℕ) → ((g : ℕ) → o ≡ Some g → g < length m.groups) → IsGroupOf (found_or UnknownGroup o >>= λ g. Ok (Some g))
       by_group None low = tt
       by_group (Some k) low = λ g has. subst (λ n. n < length m.groups) (same_some k g has) (low k refl)
 

@@ -3,6 +3,7 @@ use Rattle.std.specs.Prelude.{◌≡◌, ℕ, ◌+◌, ◌-◌, Bool, true, fals
 use Rattle.std.specs.List.{list_all, position_or_len}
 use Rattle.std.specs.Option.{option_map, option_and_then}
 use Rattle.std.specs.Str.{bytes_eq}
+use Rattle.frac128.specs.Chain.{◌>>=◌, found_or, holds_or}
 use Rattle.word_table.specs.Words.{are_apart}
 use Rattle.judgement_matrix.specs.Range.{Bounds}
 use Rattle.judgement_matrix.specs.Matrix.{Judgements, unjudged, judged, cleared}
@@ -32,22 +33,6 @@ pub data Edit : Type 0 where
   add_group : List ℕ → Option (List ℕ) → Edit
   drop_group : List ℕ → Edit
   place : List ℕ → Option (List ℕ) → Edit
-
--- one step, and the next where it isn't refused
-infixl 10 ◌>>=◌
-abbrev pub ◌>>=◌ : {A B : Type 0} → Result A EditFault → (A → Result B EditFault) → Result B EditFault
-(Ok x) >>= f = f x
-(Err fault) >>= f = Err fault
-
--- what was found, or else this refusal
-abbrev pub found : {A : Type 0} → EditFault → Option A → Result A EditFault
-found fault None = Err fault
-found fault (Some x) = Ok x
-
--- a condition, or else this refusal
-abbrev pub holds : EditFault → Bool → Result (Unit {0}) EditFault
-holds fault true = Ok tt
-holds fault false = Err fault
 
 -- the model with another list of options, and so on
 module _ (m : ModelState) where
@@ -139,62 +124,62 @@ is_permutation n order = (length order == n) && are_numbers_apart order
 -- the root, or the group with this name
 abbrev pub group_named : ModelState → Option (List ℕ) → Result (Option ℕ) EditFault
 group_named m None = Ok None
-group_named m (Some name) = found UnknownGroup (find_group m name) >>= λ g. Ok (Some g)
+group_named m (Some name) = found_or UnknownGroup (find_group m name) >>= λ g. Ok (Some g)
 
 -- the places of two elements of a criterion, the first listed above the second
 abbrev pub pair_of : CriterionState → List ℕ → List ℕ → Result (ℕ × ℕ) EditFault
 pair_of c x y = do
-  p ← found UnknownElement (find_element c x)
-  q ← found UnknownElement (find_element c y)
-  above ← holds AgainstOrder (nat_lt p q)
+  p ← found_or UnknownElement (find_element c x)
+  q ← found_or UnknownElement (find_element c y)
+  above ← holds_or AgainstOrder (nat_lt p q)
   Ok (p, q)
 
 -- the places of two criteria in the weighting, the first above the second
 abbrev pub weigh_pair : ModelState → List ℕ → List ℕ → Result (ℕ × ℕ) EditFault
 weigh_pair m x y = do
-  p ← found UnknownCriterion (weigh_place m x)
-  q ← found UnknownCriterion (weigh_place m y)
-  above ← holds AgainstOrder (nat_lt p q)
+  p ← found_or UnknownCriterion (weigh_place m x)
+  q ← found_or UnknownCriterion (weigh_place m y)
+  above ← holds_or AgainstOrder (nat_lt p q)
   Ok (p, q)
 
 -- the model after an edit, or the first refusal that holds
 abbrev pub edited : ModelState → Edit → Result ModelState EditFault
 edited m (add_option name) = do
-  free ← holds NameTaken (not (is_some (find_option m name)))
-  room ← holds LimitReached (nat_lt (length m.options) OPTIONS)
+  free ← holds_or NameTaken (not (is_some (find_option m name)))
+  room ← holds_or LimitReached (nat_lt (length m.options) OPTIONS)
   Ok (with_option m name)
 edited m (drop_option name) = do
-  o ← found UnknownOption (find_option m name)
+  o ← found_or UnknownOption (find_option m name)
   Ok (without_option m o)
 edited m (add_criterion name elements) = do
-  free ← holds NameTaken (not (is_some (find_criterion m name)))
-  apart ← holds NameTaken (are_apart elements)
-  room ← holds LimitReached (nat_lt (length m.criteria) CRITERIA)
-  few ← holds LimitReached (nat_le (length elements) LIMIT)
+  free ← holds_or NameTaken (not (is_some (find_criterion m name)))
+  apart ← holds_or NameTaken (are_apart elements)
+  room ← holds_or LimitReached (nat_lt (length m.criteria) CRITERIA)
+  few ← holds_or LimitReached (nat_le (length elements) LIMIT)
   Ok (with_criterion m (new_criterion name elements))
 edited m (drop_criterion name) = do
-  c ← found UnknownCriterion (find_criterion m name)
+  c ← found_or UnknownCriterion (find_criterion m name)
   Ok (without_criterion m c)
 edited m (set_refs name good neutral) = do
-  c ← found UnknownCriterion (find_criterion m name)
+  c ← found_or UnknownCriterion (find_criterion m name)
   pair ← pair_of (criterion_at m c) good neutral
   Ok (with_change m c (λ criterion. record criterion { good = pair.0; neutral = pair.1 }))
 edited m (judge name x y range) = do
-  c ← found UnknownCriterion (find_criterion m name)
+  c ← found_or UnknownCriterion (find_criterion m name)
   pair ← pair_of (criterion_at m c) x y
   Ok (with_change m c (λ criterion. record criterion { matrix = judged criterion.matrix pair.0 pair.1 range }))
 edited m (unjudge name x y) = do
-  c ← found UnknownCriterion (find_criterion m name)
+  c ← found_or UnknownCriterion (find_criterion m name)
   pair ← pair_of (criterion_at m c) x y
   Ok (with_change m c (λ criterion. record criterion { matrix = cleared criterion.matrix pair.0 pair.1 }))
 edited m (perform option name element) = do
-  o ← found UnknownOption (find_option m option)
-  c ← found UnknownCriterion (find_criterion m name)
-  e ← found UnknownElement (find_element (criterion_at m c) element)
+  o ← found_or UnknownOption (find_option m option)
+  c ← found_or UnknownCriterion (find_criterion m name)
+  e ← found_or UnknownElement (find_element (criterion_at m c) element)
   Ok (with_performance m o c e)
 edited m (set_order names) = do
-  order ← found UnknownCriterion (places_of m names)
-  each ← holds NotPermutation (is_permutation (length m.criteria) order)
+  order ← found_or UnknownCriterion (places_of m names)
+  each ← holds_or NotPermutation (is_permutation (length m.criteria) order)
   Ok (with_order m order)
 edited m (weigh x y range) = do
   pair ← weigh_pair m x y
@@ -203,21 +188,21 @@ edited m (unweigh x y) = do
   pair ← weigh_pair m x y
   Ok (with_weighting m (cleared m.weighting pair.0 pair.1))
 edited m (set_reach name n) = do
-  c ← found UnknownCriterion (find_criterion m name)
+  c ← found_or UnknownCriterion (find_criterion m name)
   Ok (with_change m c (λ criterion. record criterion { reach = n }))
 edited m (set_matrix name matrix) =
     if bytes_eq name (codes "weighting") then Ok (with_weighting m matrix)
-    else (found UnknownCriterion (find_criterion m name) >>= λ c. Ok (with_change m c (λ criterion. record criterion { matrix = matrix })))
+    else (found_or UnknownCriterion (find_criterion m name) >>= λ c. Ok (with_change m c (λ criterion. record criterion { matrix = matrix })))
 edited m (add_group name parent) = do
   above ← group_named m parent
-  free ← holds NameTaken (not (is_some (find_group m name)))
-  room ← holds LimitReached (nat_lt (length m.groups) GROUPS)
+  free ← holds_or NameTaken (not (is_some (find_group m name)))
+  room ← holds_or LimitReached (nat_lt (length m.groups) GROUPS)
   Ok (with_group m (record { name = name; parent = above }))
 edited m (drop_group name) = do
-  g ← found UnknownGroup (find_group m name)
+  g ← found_or UnknownGroup (find_group m name)
   Ok (without_group m g (parent_of m.groups g))
 edited m (place name group) = do
-  c ← found UnknownCriterion (find_criterion m name)
+  c ← found_or UnknownCriterion (find_criterion m name)
   g ← group_named m group
   Ok (with_change m c (λ criterion. record criterion { group = g }))
 

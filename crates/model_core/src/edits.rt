@@ -5,7 +5,8 @@ ghost use Rattle.judgement_matrix.specs.Matrix.{IsPair, judged, cleared};
 ghost use Rattle.judgement_matrix.specs.declared.matrix.TheConstants.{LIMIT};
 ghost use Rattle.model_core.specs.State.{is_reserved};
 ghost use Rattle.model_core.specs.Finding.{find_option, find_criterion, find_group, criterion_at, matrix_size};
-ghost use Rattle.model_core.specs.Edits.{Edits, found, places_of, is_permutation, are_numbers_apart, pair_of, weigh_pair, group_named, with_option, without_option, with_criterion, without_criterion, with_change, with_performance, with_order, with_weighting, with_group, without_group, add_option, drop_option, add_criterion, drop_criterion, set_refs, judge, unjudge, perform, set_order, weigh, unweigh, set_reach, set_matrix, add_group, drop_group, place};
+ghost use Rattle.frac128.specs.Chain.{found_or};
+ghost use Rattle.model_core.specs.Edits.{Edits, places_of, is_permutation, are_numbers_apart, pair_of, weigh_pair, group_named, with_option, without_option, with_criterion, without_criterion, with_change, with_performance, with_order, with_weighting, with_group, without_group, add_option, drop_option, add_criterion, drop_criterion, set_refs, judge, unjudge, perform, set_order, weigh, unweigh, set_reach, set_matrix, add_group, drop_group, place};
 
 use crate::criterion::{Criterion, are_apart};
 use crate::edit::EditFault;
@@ -227,7 +228,7 @@ impl Model {
 
     // The place of an option.
     fn option_named(&self, name: &[u8]) -> Result<usize, EditFault>
-        ensures place { result ≡ found EditFault.UnknownOption (find_option self.now name.now) }
+        ensures place { result ≡ found_or EditFault.UnknownOption (find_option self.now name.now) }
         ensures within { IfOk result (λ at. at < length self.now.options) }
     {
         self.find_option(name).ok_or(EditFault::UnknownOption)
@@ -235,7 +236,7 @@ impl Model {
 
     // The place of a criterion.
     fn criterion_named(&self, name: &[u8]) -> Result<usize, EditFault>
-        ensures place { result ≡ found EditFault.UnknownCriterion (find_criterion self.now name.now) }
+        ensures place { result ≡ found_or EditFault.UnknownCriterion (find_criterion self.now name.now) }
         ensures within { IfOk result (λ at. at < length self.now.criteria) }
     {
         self.find_criterion(name).ok_or(EditFault::UnknownCriterion)

@@ -12,7 +12,8 @@ use Rattle.judgement_matrix.specs.declared.matrix.TheConstants.{LIMIT}
 use Rattle.model_core.specs.Lists.{changed_at}
 use Rattle.model_core.specs.State.{CriterionState, ModelState, IsCriterion, is_reserved, no_criterion}
 use Rattle.model_core.specs.Finding.{find_criterion, find_element, criterion_at, matrix_size}
-use Rattle.model_core.specs.Edits.{◌>>=◌, holds, Edit, Edits, edited, takes_memory, add_criterion, set_refs, set_matrix, set_reach, place, group_named, new_criterion, with_criterion, with_change}
+use Rattle.frac128.specs.Chain.{◌>>=◌, holds_or}
+use Rattle.model_core.specs.Edits.{Edit, Edits, edited, takes_memory, add_criterion, set_refs, set_matrix, set_reach, place, group_named, new_criterion, with_criterion, with_change}
 use Rattle.model_core.specs.declared.edit.EditFault.{EditFault}
 use Rattle.model_core.specs.declared.edit.EditFault.TheVariants.{NameTaken, LimitReached, NoMemory}
 use Rattle.model_core.specs.declared.limits.TheConstants.{CRITERIA}
@@ -48,7 +49,7 @@ same x y e = cc
 
 -- four tests that held
 all_held : (a b c d : Bool) (x y : ModelState)
-    → (holds NameTaken a >>= λ _. holds NameTaken b >>= λ _. holds LimitReached c >>= λ _. holds LimitReached d >>= λ _. done x) ≡ done y → (a ≡ true) × (x ≡ y)
+    → (holds_or NameTaken a >>= λ _. holds_or NameTaken b >>= λ _. holds_or LimitReached c >>= λ _. holds_or LimitReached d >>= λ _. done x) ≡ done y → (a ≡ true) × (x ≡ y)
 all_held false b c d x y e = absurd cc
 all_held true false c d x y e = absurd cc
 all_held true true false d x y e = absurd cc

@@ -14,7 +14,8 @@ use Rattle.model_core.specs.Edits.{with_group}
 use Rattle.model_core.specs.declared.limits.TheConstants.{GROUPS}
 use Rattle.model_json.specs.declared.place.Place.{Place}
 use Rattle.model_json.specs.declared.place.Place.TheVariants as place
-use Rattle.model_json.specs.Steps.{◌>>=◌, found_or, each_into}
+use Rattle.frac128.specs.Chain.{◌>>=◌, found_or}
+use Rattle.model_json.specs.Steps.{each_into}
 use Rattle.model_json.specs.Reading.{group_or_root, group_of}
 use Rattle.model_json.specs.Writing.{group_name, with_group_key, group_data}
 use Rattle.model_json.proofs.EachAgain.{each_again}

@@ -22,7 +22,8 @@ use Rattle.model_core.specs.declared.edit.EditFault.{EditFault}
 use Rattle.model_json.specs.declared.place.Place.{Place}
 use Rattle.model_json.specs.declared.fault.Stop.{Stop}
 use Rattle.model_json.specs.declared.fault.Stop.TheVariants as stop
-use Rattle.model_json.specs.Steps.{◌>>=◌, Fails, has_only, string_at, found_or, object_at}
+use Rattle.frac128.specs.Chain.{◌>>=◌, found_or}
+use Rattle.model_json.specs.Steps.{Fails, has_only, string_at, object_at}
 use Rattle.model_json.specs.Reading.{place_among, performance_of, performances_of, row_of, with_row}
 use Rattle.model_json.proofs.StepLemmas.{after_check, same_ok}
 

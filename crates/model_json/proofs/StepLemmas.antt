@@ -3,7 +3,8 @@ use Rattle.std.proofs.Common.{◌≡◌, Bool, true, false, Result, Ok, Err, ref
 use Rattle.model_json.specs.declared.place.Place.{Place}
 use Rattle.model_json.specs.declared.fault.Stop.{Stop}
 use Rattle.model_json.specs.declared.fault.Stop.TheVariants as stop
-use Rattle.model_json.specs.Steps.{◌>>=◌, holds_or, read_as, Fails}
+use Rattle.frac128.specs.Chain.{◌>>=◌, holds_or}
+use Rattle.model_json.specs.Steps.{read_as, Fails}
 
 abbrev pub done : {A : Type 0} → A → Result A Place
 done x = Ok x

@@ -29,7 +29,8 @@ use Rattle.model_json.specs.declared.criteria.Details.{Details}
 use Rattle.model_json.specs.declared.place.Place.{Place}
 use Rattle.model_json.specs.declared.place.Place.TheVariants as place
 use Rattle.model_json.specs.declared.fault.LoadFault.{LoadFault}
-use Rattle.model_json.specs.Steps.{◌>>=◌, found_or, holds_or, whole, string_at, name_at, array_at, array_or_none, object_at, each_into}
+use Rattle.frac128.specs.Chain.{◌>>=◌, found_or, holds_or}
+use Rattle.model_json.specs.Steps.{whole, string_at, name_at, array_at, array_or_none, object_at, each_into}
 use Rattle.model_json.specs.Reading.{four, is_judgement, judgements_place, judgement_place, judgement_of, judgements_of, group_or_root, group_of, groups_in, place_among, element_of, elements_of, element_or, reach_or, criterion_keys, is_free, free_name_of, references_of, details_of, parts_of, criterion_of, row_of, with_row, option_of, rank_of, ranked_of, order_of, weighting_of, format_of, model_keys, contents_of, model_of}
 use Rattle.model_json.specs.Text.{json_of, or_bad, model_or_bad, load_of}
 use Rattle.model_json.proofs.OptionLemmas.{among_within, row_is}

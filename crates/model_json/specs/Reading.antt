@@ -17,7 +17,8 @@ use Rattle.model_json.specs.declared.judgements.Numbers.{Numbers}
 use Rattle.model_json.specs.declared.criteria.Details.{Details}
 use Rattle.model_json.specs.declared.place.Place.{Place}
 use Rattle.model_json.specs.declared.place.Place.TheVariants as place
-use Rattle.model_json.specs.Steps.{◌>>=◌, found_or, holds_or, whole, string_at, name_at, array_at, array_or_none, object_at, each_into}
+use Rattle.frac128.specs.Chain.{◌>>=◌, found_or, holds_or}
+use Rattle.model_json.specs.Steps.{whole, string_at, name_at, array_at, array_or_none, object_at, each_into}
 
 -- ---- judgements: `[p, q, lo, hi]` with places from 1
 

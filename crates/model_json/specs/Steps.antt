@@ -1,35 +1,20 @@
 -- Checks in a row: what each of them gives, or the first place that is not as it has to be.
-use Rattle.std.specs.Prelude.{◌≡◌, ℕ, ◌+◌, ◌&&◌, Bool, true, false, List, Option, None, Some, Result, Ok, Err}
+use Rattle.std.specs.Prelude.{◌≡◌, ℕ, ◌+◌, ◌&&◌, Bool, true, List, Option, None, Some, Result, Ok, Err}
 use Rattle.std.specs.Option.{option_and_then}
 use Rattle.std.specs.List.{list_any}
 use Rattle.std.specs.Str.{bytes_eq}
 use Rattle.serde_json.specs.Data.{Data, Items, no_items, item, Members, no_members, member}
 use Rattle.serde_json.specs.Find.{as_number, as_u64, as_str, as_array, as_object}
+use Rattle.frac128.specs.Chain.{◌>>=◌, found_or, holds_or, Returns}
 use Rattle.model_core.specs.Names.{is_name}
 use Rattle.model_json.specs.declared.place.Place.{Place}
 use Rattle.model_json.specs.declared.fault.Stop.{Stop}
 use Rattle.model_json.specs.declared.fault.Stop.TheVariants as stop
 
--- one check, and the next where it holds
-infixl 10 ◌>>=◌
-abbrev pub ◌>>=◌ : {A B : Type 0} → Result A Place → (A → Result B Place) → Result B Place
-(Ok x) >>= f = f x
-(Err place) >>= f = Err place
-
 -- what is read, written in another way
 abbrev pub read_as : {A B : Type 0} → (A → B) → Result A Place → Result B Place
 read_as way (Ok x) = Ok (way x)
 read_as way (Err place) = Err place
-
--- what is there, or else this place
-abbrev pub found_or : {A : Type 0} → Place → Option A → Result A Place
-found_or place None = Err place
-found_or place (Some x) = Ok x
-
--- a condition, or else this place
-abbrev pub holds_or : Place → Bool → Result (Unit {0}) Place
-holds_or place true = Ok tt
-holds_or place false = Err place
 
 -- ---- values
 
@@ -86,8 +71,7 @@ Fails (stop.At place) read = read ≡ Err place
 
 -- a call gave what is read, seen in this way, or failed where reading fails
 abbrev pub Gives : {X Y : Type 0} → (X → Y) → Result X Stop → Result Y Place → Type 0
-Gives view (Ok x) read = read ≡ Ok (view x)
-Gives view (Err stop) read = Fails stop read
+Gives view result read = Returns Fails view read result
 
 -- a call took what was read so far to what is read, or failed where reading fails
 abbrev pub Reads : {S : Type 0} → Result (Unit {0}) Stop → Result S Place → S → Type 0

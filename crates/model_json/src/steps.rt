@@ -3,7 +3,8 @@ ghost use Rattle.std.specs.Prelude.{◌≡◌, option_map, bytes_eq, map, string
 ghost use Rattle.std.specs.List.{list_any, list_all};
 ghost use Rattle.std.specs.BTreeMap.{keys as keys_of};
 ghost use Rattle.serde_json.specs.View.{view, items_view, members_view};
-ghost use Rattle.model_json.specs.Steps.{Gives, holds_or, string_at, name_at, array_at, array_or_none, object_at, members_at, has_only, whole};
+ghost use Rattle.frac128.specs.Chain.{holds_or};
+ghost use Rattle.model_json.specs.Steps.{Gives, string_at, name_at, array_at, array_or_none, object_at, members_at, has_only, whole};
 
 use crate::fault::Stop;
 use crate::place::Place;

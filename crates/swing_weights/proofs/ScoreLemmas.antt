@@ -12,7 +12,8 @@ use Rattle.integers.proofs.FractionSums.{fraction_sum-same, fraction_product-sam
 use Rattle.integers.proofs.Fractions.{SameFraction-refl}
 use Rattle.integers.proofs.Order.{mul_pos}
 use Rattle.integers.proofs.Ring.{con, ◌⊕◌, ◌⊗◌, ◌≗◌, ◌✶◌, ◌⇐◌, ring3, ring5, combine4}
-use Rattle.frac128.specs.Checked.{◌>>=◌, checked_sum, checked_product}
+use Rattle.frac128.specs.Chain.{◌>>=◌}
+use Rattle.frac128.specs.Checked.{checked_sum, checked_product}
 use Rattle.frac128.specs.Frac.{IsReduced}
 use Rattle.frac128.specs.declared.number.TooWide.{TooWide}
 use Rattle.frac128.proofs.FormulaLemmas.{IfOk-bind, IsValued, checked_sum-value, checked_product-value}

@@ -14,7 +14,8 @@ use Rattle.integers.proofs.Laws.{lin}
 use Rattle.integers.proofs.Order.{mul_pos, mul_nonneg, le_of_lt, le_antisymm, lt_cases, pos_of_mul, nonneg_of_mul, cancel_le, cancel_eq}
 use Rattle.integers.proofs.Ring.{neg, ◌⊕◌, ◌⊗◌, ◌≗◌, ◌✶◌, ◌⇐◌, ring3, combine11}
 use Rattle.integers.proofs.Writings.{IsWriting-length}
-use Rattle.frac128.specs.Checked.{◌>>=◌, Gives, checked_sum, checked_quotient}
+use Rattle.frac128.specs.Chain.{◌>>=◌}
+use Rattle.frac128.specs.Checked.{Gives, checked_sum, checked_quotient}
 use Rattle.frac128.specs.Frac.{IsReduced}
 use Rattle.frac128.proofs.FormulaLemmas.{IfOk-bind, IsValued, checked_sum-value, checked_quotient-value}
 use Rattle.judgement_matrix.specs.Values.{fraction_at}

@@ -2,7 +2,8 @@
 use Rattle.std.specs.Prelude.{List, [], ◌∷◌, ℤ, pos, ◌*ℤ◌, Result, Ok}
 use Rattle.integers.specs.Fraction.{Fraction, SameFraction, IsWriting, fraction_of}
 use Rattle.integers.specs.Vector.{dot}
-use Rattle.frac128.specs.Checked.{◌>>=◌, checked_sum, checked_product}
+use Rattle.frac128.specs.Chain.{◌>>=◌}
+use Rattle.frac128.specs.Checked.{checked_sum, checked_product}
 use Rattle.frac128.specs.declared.number.TooWide.{TooWide}
 
 -- s and then each weight times its value, added one after another

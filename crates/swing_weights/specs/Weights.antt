@@ -3,7 +3,8 @@ use Rattle.std.specs.Prelude.{◌≡◌, ◌≢◌, ◌-◌, ◌≤◌, ℤ, pos
 use Rattle.std.specs.Result.{is_err, IfOk}
 use Rattle.integers.specs.Fraction.{Fraction, IsWriting, fraction_of}
 use Rattle.integers.specs.Vector.{scale, int_sum}
-use Rattle.frac128.specs.Checked.{◌>>=◌, checked_sum, checked_quotient}
+use Rattle.frac128.specs.Chain.{◌>>=◌}
+use Rattle.frac128.specs.Checked.{checked_sum, checked_quotient}
 use Rattle.frac128.specs.declared.number.TooWide.{TooWide}
 use Rattle.judgement_matrix.specs.Values.{fraction_at}
 use Rattle.value_scale.specs.Anchor.{NeverRise}

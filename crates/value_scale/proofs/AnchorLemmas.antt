@@ -13,7 +13,8 @@ use Rattle.integers.proofs.Order.{mul_pos, cancel_eq, cancel_lt, zero_of_mul, le
 use Rattle.integers.proofs.Ring.{con, neg, ◌⊕◌, ◌⊖◌, ◌⊗◌, ◌≗◌, ◌≺◌, ◌✶◌, ◌⇐◌, ring2, combine2, combine4, combine6, combine7, combine9}
 use Rattle.integers.proofs.FractionSums.{IsFraction-whole}
 use Rattle.integers.proofs.Writings.{IsWriting-at, IsWriting-cross, IsWriting-length}
-use Rattle.frac128.specs.Checked.{◌>>=◌, checked_difference, checked_product, checked_quotient}
+use Rattle.frac128.specs.Chain.{◌>>=◌}
+use Rattle.frac128.specs.Checked.{checked_difference, checked_product, checked_quotient}
 use Rattle.frac128.specs.Frac.{IsReduced}
 use Rattle.frac128.specs.declared.number.TooWide.{TooWide}
 use Rattle.frac128.proofs.FormulaLemmas.{IfOk-bind, IsValued, checked_difference-value, checked_product-value, checked_quotient-value}

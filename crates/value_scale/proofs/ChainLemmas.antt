@@ -5,7 +5,8 @@ use Rattle.std.proofs.Common.{◌≡◌, ℕ, ◌+◌, ◌<◌, ◌≤◌, pos, 
 use Rattle.std.proofs.Math.Seq.{drop-cons}
 use Rattle.std.proofs.lemmas.List.{append_assoc, at_drop_all}
 use Rattle.integers.specs.Fraction.{Fraction, fraction_of}
-use Rattle.frac128.specs.Checked.{◌>>=◌, checked_sum, Gives}
+use Rattle.frac128.specs.Chain.{◌>>=◌}
+use Rattle.frac128.specs.Checked.{checked_sum, Gives}
 use Rattle.frac128.specs.declared.number.TooWide.{TooWide}
 use Rattle.value_scale.specs.Anchor.{checked_line, checked_point}
 use Rattle.value_scale.specs.Anchor as anchor

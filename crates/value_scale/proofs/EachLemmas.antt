@@ -2,9 +2,8 @@
 use Rattle.std.specs.Result.{IfOk}
 use Rattle.std.proofs.Common.{◌≡◌, ℕ, suc, List, [], ◌∷◌, All, length, refl, ap, Result, Ok, Err}
 use Rattle.std.proofs.lemmas.List.Elements.{All-nil, All-cons, All-head, All-tail}
-use Rattle.frac128.specs.Checked.{◌>>=◌}
+use Rattle.frac128.specs.Chain.{◌>>=◌, checked_each}
 use Rattle.frac128.proofs.FormulaLemmas.{IfOk-bind}
-use Rattle.value_scale.specs.Anchor.{checked_each}
 
 one_more : {B E : Type 0} (first : Result B E) (behind : Result (List B) E) (n : ℕ) → IfOk behind (λ ys. length ys ≡ n)
     → IfOk (first >>= (λ y. behind >>= (λ ys. Ok (y ∷ ys)))) (λ ys. length ys ≡ suc n)

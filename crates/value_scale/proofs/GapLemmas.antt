@@ -11,7 +11,8 @@ use Rattle.integers.proofs.Fractions.{SameFraction-sym, SameFraction-trans}
 use Rattle.integers.proofs.FractionSums.{fraction_sum-same, IsFraction-sum, IsFraction-whole}
 use Rattle.integers.proofs.Ring.{con, ◌⊕◌, ◌⊗◌, ◌≗◌, ring1, ring3}
 use Rattle.integers.proofs.Writings.{IsWriting-append, IsWriting-length, IsWriting-same, common_writing}
-use Rattle.frac128.specs.Checked.{◌>>=◌, checked_sum}
+use Rattle.frac128.specs.Chain.{◌>>=◌}
+use Rattle.frac128.specs.Checked.{checked_sum}
 use Rattle.frac128.specs.Frac.{IsReduced}
 use Rattle.frac128.specs.declared.number.TooWide.{TooWide}
 use Rattle.frac128.proofs.FormulaLemmas.{IfOk-bind, IsValued, checked_sum-value}

@@ -9,7 +9,7 @@ use Rattle.integers.specs.Fraction.{Fraction, IsFraction, AreFractions, Fraction
 use Rattle.integers.proofs.Laws.{lin}
 use Rattle.integers.proofs.Order.{le_of_lt, le_antisymm}
 use Rattle.integers.proofs.FractionOrder.{FractionAtMost-trans}
-use Rattle.frac128.specs.Checked.{◌>>=◌}
+use Rattle.frac128.specs.Chain.{◌>>=◌}
 use Rattle.frac128.specs.declared.number.TooWide.{TooWide}
 use Rattle.frac128.proofs.FormulaLemmas.{IfOk-bind}
 use Rattle.judgement_matrix.specs.Matrix.{Judgements}

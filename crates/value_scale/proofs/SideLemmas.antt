@@ -13,7 +13,8 @@ use Rattle.integers.proofs.Order.{mul_pos, le_of_lt, cancel_eq, cancel_le}
 use Rattle.integers.proofs.Ring.{con, neg, ◌⊕◌, ◌⊖◌, ◌⊗◌, ◌≗◌, ◌≼◌, ◌✶◌, ◌⇐◌, ring1, ring2, ring3, ring6, combine7, combine8}
 use Rattle.integers.proofs.FractionSums.{IsFraction-whole}
 use Rattle.integers.proofs.VectorLaws.{length-scale, get_or-scale}
-use Rattle.frac128.specs.Checked.{◌>>=◌, checked_difference, checked_quotient}
+use Rattle.frac128.specs.Chain.{◌>>=◌}
+use Rattle.frac128.specs.Checked.{checked_difference, checked_quotient}
 use Rattle.frac128.proofs.FormulaLemmas.{IfOk-bind, IsValued, checked_difference-value, checked_quotient-value}
 use Rattle.judgement_matrix.specs.Matrix.{Judgements}
 use Rattle.judgement_matrix.specs.Scale.{value_at, difference}

@@ -1,9 +1,10 @@
 -- Anchored scales: 100 at the element good and 0 at the element neutral, the two references of the method
 -- (Bana e Costa, De Corte and Vansnick 2005).
-use Rattle.std.specs.Prelude.{◌≡◌, ℕ, ℤ, pos, ◌+ℤ◌, ◌*ℤ◌, ◌<ℤ◌, List, [], ◌∷◌, map, length, Result, Ok}
+use Rattle.std.specs.Prelude.{◌≡◌, ℕ, ℤ, pos, ◌+ℤ◌, ◌*ℤ◌, ◌<ℤ◌, List, map, length, Result}
 use Rattle.integers.specs.Fraction.{Fraction, FractionAtMost, SameFraction, IsWriting, fraction_of}
 use Rattle.integers.specs.Vector.{scale}
-use Rattle.frac128.specs.Checked.{◌>>=◌, checked_difference, checked_product, checked_quotient}
+use Rattle.frac128.specs.Chain.{◌>>=◌, checked_each}
+use Rattle.frac128.specs.Checked.{checked_difference, checked_product, checked_quotient}
 use Rattle.frac128.specs.declared.number.TooWide.{TooWide}
 use Rattle.judgement_matrix.specs.Matrix.{IsPair}
 use Rattle.judgement_matrix.specs.Scale.{value_at}
@@ -49,14 +50,6 @@ abbrev pub IsFlat : List Fraction → ℕ → ℕ → Type 0
 IsFlat values good neutral = SameFraction (fraction_at values good) (fraction_at values neutral)
 
 -- ---- how it is worked
-
--- what a step makes of each item, or the first refusal
-abbrev pub checked_each : {A B E : Type 0} → (A → Result B E) → List A → Result (List B) E
-checked_each step [] = Ok []
-checked_each step (x ∷ xs) = do
-  y ← step x
-  ys ← checked_each step xs
-  Ok (y ∷ ys)
 
 -- 100 for each unit by which the first is above the second
 abbrev pub checked_factor : Fraction → Fraction → Result Fraction TooWide

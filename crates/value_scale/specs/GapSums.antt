@@ -1,7 +1,8 @@
 -- The values of a scale from its gaps, the bottom one first: each value is worked by one sum, from the bottom upwards.
 use Rattle.std.specs.Prelude.{List, [], ◌∷◌, ℤ, pos, reverse, Result, Ok}
 use Rattle.integers.specs.Fraction.{Fraction, SameFractions, IsWriting, over, fraction_of}
-use Rattle.frac128.specs.Checked.{◌>>=◌, checked_sum}
+use Rattle.frac128.specs.Chain.{◌>>=◌}
+use Rattle.frac128.specs.Checked.{checked_sum}
 use Rattle.frac128.specs.declared.number.TooWide.{TooWide}
 use Rattle.lp_macbeth.specs.Gaps.{scale_of}
 

@@ -1,7 +1,7 @@
 -- How the interval of an element narrows, row by row.
 use Rattle.std.specs.Prelude.{ℕ, pos, ◌*ℤ◌, ◌==◌, get_or, int_lt, Bool, List, [], ◌∷◌, Option, None, Some, if◌then◌else◌, Result, Ok}
 use Rattle.integers.specs.Fraction.{Fraction, fraction_of}
-use Rattle.frac128.specs.Checked.{◌>>=◌}
+use Rattle.frac128.specs.Chain.{◌>>=◌}
 use Rattle.frac128.specs.declared.number.TooWide.{TooWide}
 use Rattle.judgement_matrix.specs.Matrix.{Judgements}
 use Rattle.judgement_matrix.specs.Rows.{rows}

@@ -2,7 +2,8 @@
 use Rattle.std.specs.Prelude.{◌≡◌, ◌≢◌, ◌⊎◌, ◌↔◌, ℕ, ◌-◌, ◌+◌, ◌<◌, ℤ, pos, ◌-ℤ◌, ◌*ℤ◌, ◌<ℤ◌, List, [], ◌∷◌, set, Option, None, Some, if◌then◌else◌, nat_eq, Result, Err}
 use Rattle.integers.specs.Fraction.{Fraction, FractionAtMost, IsWriting, fraction_of}
 use Rattle.integers.specs.Vector.{scale}
-use Rattle.frac128.specs.Checked.{◌>>=◌, checked_difference, checked_quotient}
+use Rattle.frac128.specs.Chain.{◌>>=◌}
+use Rattle.frac128.specs.Checked.{checked_difference, checked_quotient}
 use Rattle.frac128.specs.declared.number.TooWide.{TooWide}
 use Rattle.judgement_matrix.specs.Matrix.{Judgements, range_at}
 use Rattle.judgement_matrix.specs.Rows.{rows}

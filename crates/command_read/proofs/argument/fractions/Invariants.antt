@@ -1,7 +1,7 @@
 use Rattle.std.proofs.Common.{◌≡◌, ◌++◌, length, List, Ok}
 use Rattle.integers.specs.Fraction.{Fraction}
 use Rattle.command_read.specs.Parts.{fractions}
-use Rattle.command_read.specs.Refusals.{◌>>=◌}
+use Rattle.frac128.specs.Chain.{◌>>=◌}
 use Rattle.command_read.specs.Words.{words}
 use Rattle.command_read.proofs.argument.fractions.Given as goal
 

@@ -1,5 +1,5 @@
 use Rattle.std.proofs.Common.{◌≡◌, ◌++◌, drop, pos, Ok}
-use Rattle.frac128.specs.Checked.{◌>>=◌}
+use Rattle.frac128.specs.Chain.{◌>>=◌}
 use Rattle.lp_macbeth.specs.ClosedWeighting.{checked_sums, in_order}
 use Rattle.lp_macbeth.proofs.weighting.costs.Given as goal
 

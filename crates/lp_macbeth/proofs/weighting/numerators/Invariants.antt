@@ -1,5 +1,5 @@
 use Rattle.std.proofs.Common.{◌≡◌, ◌++◌, drop, Ok}
-use Rattle.frac128.specs.Checked.{◌>>=◌}
+use Rattle.frac128.specs.Chain.{◌>>=◌}
 use Rattle.lp_macbeth.specs.ClosedWeighting.{checked_numerators}
 use Rattle.lp_macbeth.proofs.weighting.numerators.Given as goal
 

@@ -1,5 +1,5 @@
 use Rattle.std.proofs.Common.{◌≡◌, ◌++◌, drop, Ok}
-use Rattle.frac128.specs.Checked.{◌>>=◌}
+use Rattle.frac128.specs.Chain.{◌>>=◌}
 use Rattle.swing_weights.specs.Weights.{checked_shares}
 use Rattle.swing_weights.proofs.weighing.shares.Given as goal
 

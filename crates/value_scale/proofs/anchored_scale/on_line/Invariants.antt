@@ -1,5 +1,5 @@
 use Rattle.std.proofs.Common.{◌≡◌, ◌++◌, drop, Ok}
-use Rattle.frac128.specs.Checked.{◌>>=◌}
+use Rattle.frac128.specs.Chain.{◌>>=◌}
 use Rattle.value_scale.specs.Anchor.{checked_line}
 use Rattle.value_scale.proofs.anchored_scale.on_line.Given as goal
 

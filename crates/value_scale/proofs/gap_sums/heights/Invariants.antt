@@ -1,5 +1,5 @@
 use Rattle.std.proofs.Common.{◌≡◌, ◌++◌, drop, Ok}
-use Rattle.frac128.specs.Checked.{◌>>=◌}
+use Rattle.frac128.specs.Chain.{◌>>=◌}
 use Rattle.value_scale.specs.GapSums.{checked_heights, checked_column}
 use Rattle.value_scale.proofs.gap_sums.heights.Given as goal
 
