@@ -1,3 +1,4 @@
+pub mod ChainLemmas
 pub mod Checked
 pub mod Combination
 pub mod DecimalLemmas
@@ -14,4 +15,5 @@ pub mod PrintingLemmas
 pub mod ProblemLaws
 pub mod ReaderLemmas
 pub mod ReadingLemmas
+pub mod ReducedLemmas
 pub mod TextLemmas

@@ -1,7 +1,7 @@
 -- Lists of any elements: what holds of each, members, and the first place that passes a test.
 use Rattle.std.specs.List.{filter, position_or_len}
 use Rattle.std.proofs.lemmas.Bool.{true≢false, cases_lt, cond-true, cond-false, lt-ltb, le-ltb}
-use Rattle.std.proofs.lemmas.List.{get_or-map, length-map}
+use Rattle.std.proofs.lemmas.List.{get_or-map, get_or_past, length-map}
 use Rattle.std.proofs.lemmas.List.Elements.{Contains-append_right, All-nil, All-cons, All-head, All-tail, All-append, All-contains, All-filter, All-contains_itself, filter_passes}
 use Rattle.std.proofs.lemmas.List.Sums.{position_or_len_is, fails_before_first}
 use Rattle.std.proofs.Common.{◌≡◌, ◌⊎◌, inl, inr, ◌↔◌, Bool, true, false, cond, ltb, ℕ, zero, suc, ◌<◌, ◌≤◌, length, get_or, map, List, [], ◌∷◌, ◌++◌, All, AllPairs, Contains, position, Some, None, refl, sym, ap, subst, ◌∙◌, arith}
@@ -19,6 +19,10 @@ All-parts P (x ∷ xs) ys = let rest = All-parts P xs ys in (
 -- what holds of all that a list is made into holds of what one element is made into
 pub All-get_or_map : {A B : Type 0} (P : B → Type 0) (f : A → B) (xs : List A) (i : ℕ) (d : A) → i < length xs → All P (map f xs) → P (f (get_or xs i d))
 All-get_or_map P f xs i d h all = subst P (get_or-map f xs i d (f d) h) (all i (f d) (omega (arith, length-map xs f)))
+
+-- an element, or what stands for one that isn't there
+pub All-get_or_else : {A : Type 0} (P : A → Type 0) (xs : List A) (i : ℕ) (d : A) → P d → All P xs → P (get_or xs i d)
+All-get_or_else P xs i d none h = elim (cases_lt i (length xs)) [ inl l ↦ h i d l | inr g ↦ subst P (sym (get_or_past xs i d g)) none ]
 
 -- what holds of each pair holds of those of the rest
 pub AllPairs-tail : {A : Type 0} (R : A → A → Type 0) (x : A) (xs : List A) → AllPairs R (x ∷ xs) → AllPairs R xs

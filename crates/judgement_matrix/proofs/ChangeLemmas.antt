@@ -1,9 +1,10 @@
 -- Matrices with one element more or less.
-use Rattle.std.proofs.Common.{◌≡◌, ℕ, zero, suc, ◌+◌, ◌-◌, ◌<◌, ◌≤◌, Bool, false, List, [], ◌∷◌, ◌++◌, length, map, take, drop, get_or, set, Option, Some, None, All, ◌⊎◌, inl, inr, refl, sym, ap, ap₂, subst, ◌∙◌, arith, add-one}
+use Rattle.std.proofs.Common.{◌≡◌, ℕ, zero, suc, ◌+◌, ◌-◌, ◌<◌, ◌≤◌, Bool, false, List, [], ◌∷◌, ◌++◌, length, map, take, drop, get_or, set, Option, Some, None, All, ◌⊎◌, inl, inr, refl, sym, ap, ap₂, ◌∙◌, arith, add-one}
 use Rattle.std.proofs.lemmas.Bool.Decides.{nat_tests}
-use Rattle.std.proofs.lemmas.List.{length-map, get_or-map, get_or_past, get_or_default, length-append, length-take, length-drop}
+use Rattle.std.proofs.lemmas.List.{length-map, get_or-map, get_or_default, length-append, length-take, length-drop}
 use Rattle.std.proofs.lemmas.Bool.{cases_lt}
 use Rattle.std.proofs.lemmas.List.Elements.{All-map}
+use Rattle.integers.proofs.Lists.{All-get_or_else}
 use Rattle.judgement_matrix.specs.Range.{Bounds, full}
 use Rattle.judgement_matrix.specs.Matrix.{Judgements, IsCell, IsMatrix, IsPair, pairs, pairs_before, place, cell_at}
 use Rattle.judgement_matrix.specs.Change.{old_cell, grown_cell, grown, without_from, left_cell, without}
@@ -58,10 +59,6 @@ drop-all (x ∷ xs) zero h = absurd (nil_not_cons _ _ (sym h))
 drop-all (x ∷ xs) (suc i) h = omega (arith, drop-all xs i h)
 
 -- ---- every cell is one
-
--- an element, or what stands for one that isn't there
-All-get_or_else : {X : Type 0} (P : X → Type 0) (xs : List X) (i : ℕ) (d : X) → P d → All P xs → P (get_or xs i d)
-All-get_or_else P xs i d none h = elim (cases_lt i (length xs)) [ inl l ↦ h i d l | inr g ↦ subst P (sym (get_or_past xs i d g)) none ]
 
 -- all categories are a range
 pub IsCell-full : IsCell (full, false)

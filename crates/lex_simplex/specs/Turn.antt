@@ -1,5 +1,5 @@
 -- A turn of the simplex method with the lexicographic rule, as a function on tableaus, and runs of turns.
-use Rattle.std.specs.Prelude.{◌≡◌, ℕ, zero, suc, ◌^◌, Bool, true, false, not, ◌&&◌, ◌||◌, nat_eq, nat_lt, int_lt, List, [], ◌∷◌, ◌++◌, map, set, length, Option, Some, None, Result, Ok, Err, ℤ, pos, ◌-ℤ◌, ◌*ℤ◌, int_div, unsigned_abs, position, find, flat_map}
+use Rattle.std.specs.Prelude.{◌≡◌, ℕ, zero, suc, Bool, true, false, not, ◌&&◌, ◌||◌, nat_eq, int_lt, List, [], ◌∷◌, ◌++◌, map, set, length, Option, Some, None, Result, Ok, Err, ℤ, pos, ◌-ℤ◌, ◌*ℤ◌, int_div, unsigned_abs, position, find, flat_map}
 use Rattle.std.specs.List.{list_all}
 use Rattle.std.specs.Ordering.{int_cmp}
 use Rattle.std.specs.declared.cmp.Ordering.TheVariants.{Less, Equal, Greater}
@@ -13,6 +13,7 @@ use Rattle.lex_simplex.specs.declared.end.End.TheVariants.{Optimal, Empty}
 use Rattle.lex_simplex.specs.declared.end.PivotFault.{PivotFault}
 use Rattle.lex_simplex.specs.declared.end.PivotFault.TheVariants.{TooWide}
 use Rattle.frac128.specs.Problem.{ProblemData}
+use Rattle.frac128.specs.Range.{is_in_range}
 
 -- ---- where a turn pivots
 
@@ -109,10 +110,6 @@ abbrev pub pivot_numbers : Tableau → ℕ → ℕ → List ℤ
 pivot_numbers t r e = flat_map (step_numbers (row_of t r) e) (t.cost ∷ t.rows)
 
 -- ---- turns
-
--- whether the number is within -(2^127 - 1) to 2^127 - 1
-abbrev pub is_in_range : ℤ → Bool
-is_in_range z = nat_lt (unsigned_abs z) (2 ^ 127)
 
 -- what a turn gives: the next tableau, or the end of the run
 pub data TurnResult : Type 0 where

@@ -2,38 +2,17 @@
 use Rattle.std.specs.Prelude.{reverse, int_div, IsTrue}
 use Rattle.std.specs.Result.{is_err, IsErr}
 use Rattle.std.proofs.Common.{◌≡◌, ℕ, ◌+◌, ◌<◌, ◌≤◌, ℤ, pos, ◌+ℤ◌, ◌*ℤ◌, List, [], ◌∷◌, ◌++◌, length, get_or, drop, append-nil, refl, sym, ap, subst, ◌∙◌, Result, Ok, Err}
-use Rattle.std.proofs.lemmas.List.{append_assoc, at_drop_all, get_or_default}
+use Rattle.std.proofs.lemmas.List.{at_drop_all, get_or_default}
 use Rattle.integers.specs.Fraction.{Fraction}
 use Rattle.integers.specs.Divisibility.{gcd_of}
 use Rattle.frac128.specs.Chain.{◌>>=◌}
 use Rattle.frac128.specs.Checked.{checked_difference, Gives}
 use Rattle.frac128.specs.declared.number.TooWide.{TooWide}
+use Rattle.frac128.proofs.ChainLemmas.{chain_next, chain_stops}
 use Rattle.lp_macbeth.specs.ClosedWeighting.{in_order, checked_whole, checked_excesses, checked_multiple, checked_numerators, checked_sums, checked_costs, FaultSays}
 use Rattle.lp_macbeth.specs.declared.weighting.WeightingFault.{WeightingFault}
 use Rattle.lp_macbeth.specs.declared.weighting.WeightingFault.TheVariants as fault
 use Rattle.lp_macbeth.proofs.LoopLemmas.{rest_next}
-
--- ---- chains
-
--- a step and the others, put behind what is done
-abbrev pub chain : {B : Type 0} → Result B TooWide → (B → Result (List B) TooWide) → List B → Result (List B) TooWide
-chain first rest done = (first >>= (λ y. (rest y) >>= (λ others. Ok (y ∷ others)))) >>= (λ others. Ok (done ++ others))
-
-push_onto : {B : Type 0} (r : Result (List B) TooWide) (x : B) (done : List B)
-    → (r >>= (λ others. Ok ((done ++ x ∷ []) ++ others))) ≡ ((r >>= (λ others. Ok (x ∷ others))) >>= (λ others. Ok (done ++ others)))
-push_onto (Ok others) x done = ap (λ l. Ok l) (append_assoc done (x ∷ []) others)
-push_onto (Err e) x done = refl
-
--- the step gives an item, which is added
-pub chain_next : {B : Type 0} (first : Result B TooWide) (rest : B → Result (List B) TooWide) (x : B) (done now : List B) (all : Result (List B) TooWide)
-    → Ok x ≡ first → now ≡ done ++ x ∷ [] → chain first rest done ≡ all → ((rest x) >>= (λ others. Ok (now ++ others))) ≡ all
-chain_next first rest x done now all is made so_far =
-    ap (λ l. (rest x) >>= (λ others. Ok (l ++ others))) made ∙ push_onto (rest x) x done ∙ ap (λ r. chain r rest done) is ∙ so_far
-
--- the step refuses
-pub chain_stops : {B : Type 0} (first : Result B TooWide) (rest : B → Result (List B) TooWide) (e : TooWide) (done : List B) (all : Result (List B) TooWide)
-    → Err e ≡ first → chain first rest done ≡ all → all ≡ Err e
-chain_stops first rest e done all is so_far = sym so_far ∙ ap (λ r. chain r rest done) (sym is)
 
 -- the answer to a formula that refuses
 pub too_wide : {V X : Type 0} (items : V → X) (worked : Result X TooWide) (e : TooWide) (result : Result V WeightingFault) → IsErr result → worked ≡ Err e

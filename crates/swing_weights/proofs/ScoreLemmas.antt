@@ -17,7 +17,7 @@ use Rattle.frac128.specs.Checked.{checked_sum, checked_product}
 use Rattle.frac128.specs.Frac.{IsReduced}
 use Rattle.frac128.specs.declared.number.TooWide.{TooWide}
 use Rattle.frac128.proofs.FormulaLemmas.{IfOk-bind, IsValued, checked_sum-value, checked_product-value}
-use Rattle.value_scale.proofs.ReducedLemmas.{checked_sum-reduced, checked_product-reduced}
+use Rattle.frac128.proofs.ReducedLemmas.{checked_sum-reduced, checked_product-reduced}
 use Rattle.swing_weights.specs.Score.{checked_score_from, checked_score, IsScore}
 
 -- the sum with the criterion at a place, and then the rest

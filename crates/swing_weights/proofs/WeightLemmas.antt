@@ -23,7 +23,7 @@ use Rattle.swing_weights.specs.Weights.{checked_total_from, checked_shares, chec
 use Rattle.swing_weights.specs.declared.weighing.WeightFault.{WeightFault}
 use Rattle.swing_weights.specs.declared.weighing.WeightFault.TheVariants as fault
 use Rattle.value_scale.proofs.BasicLemmas.{IsWriting-take}
-use Rattle.value_scale.proofs.ReducedLemmas.{checked_quotient-reduced, reduced_are_fractions}
+use Rattle.frac128.proofs.ReducedLemmas.{checked_quotient-reduced, reduced_are_fractions}
 use Rattle.swing_weights.proofs.ScoreLemmas.{no_more, chained, from_zero}
 
 -- ---- a share

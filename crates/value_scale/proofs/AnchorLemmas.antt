@@ -19,7 +19,7 @@ use Rattle.frac128.specs.Frac.{IsReduced}
 use Rattle.frac128.specs.declared.number.TooWide.{TooWide}
 use Rattle.frac128.proofs.FormulaLemmas.{IfOk-bind, IsValued, checked_difference-value, checked_product-value, checked_quotient-value}
 use Rattle.value_scale.proofs.EachLemmas.{each_length, each_ok}
-use Rattle.value_scale.proofs.ReducedLemmas.{checked_product-reduced, reduced_are_fractions}
+use Rattle.frac128.proofs.ReducedLemmas.{checked_product-reduced, reduced_are_fractions}
 use Rattle.judgement_matrix.specs.Scale.{value_at}
 use Rattle.judgement_matrix.specs.Values.{fraction_at}
 use Rattle.value_scale.specs.Anchor.{IsAnchoredScale, AreAnchored, NeverRise, AreReferences, IsFlat, checked_factor, checked_point, checked_line, checked_anchor}

@@ -3,11 +3,12 @@ use Rattle.std.specs.Prelude.{IsTrue}
 use Rattle.std.specs.Result.{is_err, IsErr, IsErrAnd}
 use Rattle.std.proofs.Common.{◌≡◌, ℕ, ◌+◌, ◌<◌, ◌≤◌, pos, List, [], ◌∷◌, ◌++◌, length, get_or, drop, append-nil, add-one, refl, sym, ap, ap₂, subst, ◌∙◌, Result, Ok, Err}
 use Rattle.std.proofs.Math.Seq.{drop-cons}
-use Rattle.std.proofs.lemmas.List.{append_assoc, at_drop_all}
+use Rattle.std.proofs.lemmas.List.{at_drop_all}
 use Rattle.integers.specs.Fraction.{Fraction, fraction_of}
 use Rattle.frac128.specs.Chain.{◌>>=◌}
 use Rattle.frac128.specs.Checked.{checked_sum, Gives}
 use Rattle.frac128.specs.declared.number.TooWide.{TooWide}
+use Rattle.frac128.proofs.ChainLemmas.{chain_next, chain_stops}
 use Rattle.value_scale.specs.Anchor.{checked_line, checked_point}
 use Rattle.value_scale.specs.Anchor as anchor
 use Rattle.value_scale.specs.GapSums.{checked_heights, checked_column}
@@ -23,26 +24,6 @@ use Rattle.value_scale.specs.declared.fault.ScaleFault.TheVariants as fault
 pub rest_item : {A : Type 0} (xs : List A) (i : ℕ) (x : A) → i < length xs → x ≡ get_or xs i x → drop i xs ≡ x ∷ drop (i + 1) xs
 rest_item xs i x below read =
     drop-cons xs i x below ∙ ap (λ k. get_or xs i x ∷ drop k xs) (sym (add-one i)) ∙ ap (λ y. y ∷ drop (i + 1) xs) (sym read)
-
--- a step and the others, put behind what is done
-abbrev pub chain : {B : Type 0} → Result B TooWide → (B → Result (List B) TooWide) → List B → Result (List B) TooWide
-chain first rest done = (first >>= (λ y. (rest y) >>= (λ others. Ok (y ∷ others)))) >>= (λ others. Ok (done ++ others))
-
-push_onto : {B : Type 0} (r : Result (List B) TooWide) (x : B) (done : List B)
-    → (r >>= (λ others. Ok ((done ++ x ∷ []) ++ others))) ≡ ((r >>= (λ others. Ok (x ∷ others))) >>= (λ others. Ok (done ++ others)))
-push_onto (Ok others) x done = ap (λ l. Ok l) (append_assoc done (x ∷ []) others)
-push_onto (Err e) x done = refl
-
--- the step gives an item, which is added
-pub chain_next : {B : Type 0} (first : Result B TooWide) (rest : B → Result (List B) TooWide) (x : B) (done now : List B) (all : Result (List B) TooWide)
-    → Ok x ≡ first → now ≡ done ++ x ∷ [] → chain first rest done ≡ all → ((rest x) >>= (λ others. Ok (now ++ others))) ≡ all
-chain_next first rest x done now all is made so_far =
-    ap (λ l. (rest x) >>= (λ others. Ok (l ++ others))) made ∙ push_onto (rest x) x done ∙ ap (λ r. chain r rest done) is ∙ so_far
-
--- the step refuses
-pub chain_stops : {B : Type 0} (first : Result B TooWide) (rest : B → Result (List B) TooWide) (e : TooWide) (done : List B) (all : Result (List B) TooWide)
-    → Err e ≡ first → chain first rest done ≡ all → all ≡ Err e
-chain_stops first rest e done all is so_far = sym so_far ∙ ap (λ r. chain r rest done) (sym is)
 
 -- the answer to a formula that refuses
 pub too_wide : {V X : Type 0} (items : V → X) (worked : Result X TooWide) (e : TooWide) (result : Result V ScaleFault) → IsErr result → worked ≡ Err e

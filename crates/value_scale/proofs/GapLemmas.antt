@@ -19,7 +19,7 @@ use Rattle.frac128.proofs.FormulaLemmas.{IfOk-bind, IsValued, checked_sum-value}
 use Rattle.lp_macbeth.specs.Gaps.{heights, scale_of}
 use Rattle.lp_macbeth.proofs.GapLemmas.{length-scale_of}
 use Rattle.value_scale.specs.GapSums.{AreScaleOf, checked_heights, checked_column, checked_values}
-use Rattle.value_scale.proofs.ReducedLemmas.{checked_sum-reduced, reduced_are_fractions}
+use Rattle.frac128.proofs.ReducedLemmas.{checked_sum-reduced, reduced_are_fractions}
 
 -- fractions with positive denominators, and w over n is a writing of them
 abbrev pub IsWritten : List ℤ → ℤ → List Fraction → Type 0

@@ -3,7 +3,6 @@ pub mod AnchorLemmas
 pub mod AnswerLemmas
 pub mod BasicLemmas
 pub mod ChainLemmas
-pub mod DecidedLemmas
 pub mod EachLemmas
 pub mod GapLemmas
 pub mod GivesLemmas
@@ -11,7 +10,6 @@ pub mod IntervalLemmas
 pub mod MetLemmas
 pub mod NarrowingLemmas
 pub mod OneAnswerLemmas
-pub mod ReducedLemmas
 pub mod SameLemmas
 pub mod SideLemmas
 pub mod SlackLemmas

@@ -16,10 +16,10 @@ use Rattle.integers.proofs.LexOrder.{LexLess_asym}
 use Rattle.integers.proofs.Lists.{position-is, position-none}
 use Rattle.integers.proofs.Numbers.{Decides-numbers, find-numbers_is, find-numbers_none, find-numbers_some}
 use Rattle.integers.proofs.OrderTests.{int_lt-Decides, int_lt-false}
-use Rattle.frac128.specs.Range.{IsInRange}
+use Rattle.frac128.specs.Range.{IsInRange, is_in_range}
 use Rattle.lex_simplex.specs.Pivot.{IsLeaving, IsEntering}
 use Rattle.lex_simplex.specs.Tableau.{no_row, Tableau, TableRow, row_of, entry, column}
-use Rattle.lex_simplex.specs.Turn.{leaving, entering, is_entering, ratios, comes_before, is_in_range}
+use Rattle.lex_simplex.specs.Turn.{leaving, entering, is_entering, ratios, comes_before}
 
 -- ---- the tests
 

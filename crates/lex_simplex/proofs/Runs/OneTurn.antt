@@ -2,12 +2,12 @@
 use Rattle.std.specs.List.{list_all}
 use Rattle.std.proofs.lemmas.Bool.{false_from_ne_true}
 use Rattle.std.proofs.Common.{◌≡◌, ℕ, Bool, true, false, pos, ◌≤ℤ◌, All, Some, None, Option, Ok, Err, refl, ap, ◌∙◌}
-use Rattle.frac128.specs.Range.{IsInRange}
+use Rattle.frac128.specs.Range.{IsInRange, is_in_range}
 use Rattle.lex_simplex.specs.declared.end.End.TheVariants.{Optimal, Empty}
 use Rattle.lex_simplex.specs.declared.end.PivotFault.TheVariants.{TooWide}
 use Rattle.lex_simplex.specs.Pivot.{IsLeaving, IsEntering}
 use Rattle.lex_simplex.specs.Tableau.{Tableau, TableRow}
-use Rattle.lex_simplex.specs.Turn.{TurnResult, next, ended, leaving, entering, is_in_range, pivoted_tableau, pivot_numbers, turn_at, turn_in, turn}
+use Rattle.lex_simplex.specs.Turn.{TurnResult, next, ended, leaving, entering, pivoted_tableau, pivot_numbers, turn_at, turn_in, turn}
 use Rattle.lex_simplex.proofs.Choices.Laws.{in_range-test, leaving-some, leaving-none, entering-is, is-entering}
 
 -- ---- what makes a turn what it is
