@@ -19,7 +19,8 @@ use Rattle.model_core.specs.State.{CriterionState, GroupState, ModelState, no_cr
 use Rattle.model_json.specs.Writing.{array_of, judged_pairs, judgement_data, judgements_data, with_group_key, group_data, element_name, criterion_data, performance_members, option_data, weighting_data, options_with_rows, criterion_name, model_data, dump_text}
 use Rattle.model_json.specs.Kept.{IsNamed, IsNamedCriterion, IsNamedModel}
 use Rattle.model_json.proofs.GroupsAgain.{no_group}
-use Rattle.model_json.proofs.LineLemmas.{is_line, line-append, each_fits}
+use Rattle.word_table.specs.Lines.{is_line}
+use Rattle.model_json.proofs.LineLemmas.{line-append, each_fits}
 use Rattle.model_json.proofs.LayoutLines.{IsShort, HasShort, MembersShort, layout_fits}
 use Rattle.model_json.proofs.DumpText.{flat_model}
 

@@ -7,7 +7,8 @@ use Rattle.json.specs.Layout.{Last, is_value, gap, pretty_from}
 use Rattle.json.specs.Tree.{json_tokens, items_tokens, members_tokens}
 use Rattle.serde_json.specs.Data.{Num, unsigned, negative, float, Data, null, boolean, number, string, array, object, Items, no_items, item, Members, no_members, member, depth, items_depth, members_depth}
 use Rattle.serde_json.specs.Written.{number_text, outline, items_outline, members_outline}
-use Rattle.model_json.proofs.LineLemmas.{is_line, line-append, line-spaces, number_line, number_length, Fits, byte_on, line_ends, text_on}
+use Rattle.word_table.specs.Lines.{is_line}
+use Rattle.model_json.proofs.LineLemmas.{line-append, line-spaces, number_line, number_length, Fits, byte_on, line_ends, text_on}
 
 -- what is written for a string of at most 64 bytes has at most two bytes for each of them
 pub record IsShort (s : List ℕ) : Type 0 where

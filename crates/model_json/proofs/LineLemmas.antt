@@ -1,14 +1,12 @@
 -- Texts without a newline, and the lines of a text.
 use Rattle.std.proofs.Common.{◌≡◌, ℕ, zero, suc, ◌+◌, ◌/◌, ◌%◌, ◌≤◌, ◌==◌, nat_lt, List, [], ◌∷◌, ◌++◌, length, replicate, Bool, true, false, not, refl, ◌∙◌, subst, arith}
 use Rattle.std.specs.Prelude.{if◌then◌else◌}
-use Rattle.std.specs.List.{list_all, AllByRecursion, slice_split, onto_first}
+use Rattle.std.specs.List.{AllByRecursion, slice_split, onto_first}
+use Rattle.word_table.specs.Lines.{is_line}
 use Rattle.std.specs.Fmt.{decimal, digits, digits_onto, digit_glyph}
 use Rattle.std.proofs.lemmas.Bool.{and_from, and_parts}
 use Rattle.std.proofs.lemmas.Bool.Decides.{nat_tests}
 use Rattle.std.proofs.lemmas.List.Folds.{list_all-append}
-
-abbrev pub is_line : List ℕ → Bool
-is_line text = list_all (λ byte. not (byte == 10)) text
 
 pub line-append : (a b : List ℕ) → is_line a ≡ true → is_line b ≡ true → is_line (a ++ b) ≡ true
 line-append a b h k = list_all-append (λ byte. not (byte == 10)) a b ∙ and_from (is_line a) (is_line b) h k

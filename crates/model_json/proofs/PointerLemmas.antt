@@ -8,7 +8,8 @@ use Rattle.model_json.specs.declared.place.Place.TheVariants as place
 use Rattle.model_json.specs.declared.fault.LoadFault.TheVariants.{BadModel}
 use Rattle.model_json.specs.Pointers.{pointer_text}
 use Rattle.model_json.specs.Reading.{model_of}
-use Rattle.model_json.proofs.LineLemmas.{is_line, line-append, number_line}
+use Rattle.word_table.specs.Lines.{is_line}
+use Rattle.model_json.proofs.LineLemmas.{line-append, number_line}
 use Rattle.model_json.specs.Text.{json_of, or_bad, model_or_bad, load_of}
 
 -- a number with words behind it

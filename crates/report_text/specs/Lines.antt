@@ -1,11 +1,7 @@
 -- Texts made of lines.
-use Rattle.std.specs.Prelude.{◌≡◌, ℕ, List, [], ◌∷◌, ◌++◌, length, codes, Result, OnOk, String, string_bytes}
+use Rattle.std.specs.Prelude.{◌≡◌, ℕ, List, ◌∷◌, ◌++◌, length, codes, Result, OnOk, String, string_bytes}
 use Rattle.std.specs.Fmt.{decimal}
-use Rattle.std.specs.List.{flat_map}
-
--- each line, with a newline behind it
-abbrev pub lines_text : List (List ℕ) → List ℕ
-lines_text lines = flat_map (λ line. line ++ 10 ∷ []) lines
+pub use Rattle.word_table.specs.Lines.{lines_text}
 
 -- lines under a heading that ends with their number
 abbrev pub counted : List ℕ → List (List ℕ) → List (List ℕ)

@@ -1,6 +1,6 @@
 -- Lines, and replies of whose parts none has a newline in it.
-use Rattle.std.specs.Prelude.{ℕ, Bool, not, ◌==◌, List, Option, Some, None, All, IsTrue, ⊤}
-use Rattle.std.specs.List.{list_all}
+use Rattle.std.specs.Prelude.{ℕ, List, Option, Some, None, All, IsTrue, ⊤}
+pub use Rattle.word_table.specs.Lines.{is_line}
 use Rattle.report_text.specs.declared.reply.Detail.{Detail}
 use Rattle.report_text.specs.declared.reply.Detail.TheVariants as detail
 use Rattle.report_text.specs.declared.reply.Head.{Head}
@@ -9,9 +9,6 @@ use Rattle.report_text.specs.declared.reply.Reply.{Reply}
 use Rattle.report_text.specs.declared.reply.Reply.TheVariants as reply
 
 -- no byte is a newline
-abbrev pub is_line : List ℕ → Bool
-is_line line = list_all (λ byte. not (byte == 10)) line
-
 abbrev pub IsLine : List ℕ → Type 0
 IsLine line = IsTrue (is_line line)
 

@@ -1,22 +1,15 @@
 -- Tables as lines.
-use Rattle.std.specs.Prelude.{◌≡◌, ◌≤◌, ℕ, ◌-◌, ◌==◌, Bool, not, List, [], ◌∷◌, ◌++◌, length, map, take, flat_map}
-use Rattle.std.specs.List.{list_all, AllByRecursion}
+use Rattle.std.specs.Prelude.{◌≡◌, ◌≤◌, ℕ, ◌-◌, List, length, map, take}
+use Rattle.std.specs.List.{AllByRecursion}
 use Rattle.std.specs.Global.{Vec}
 use Rattle.csv.specs.Reading.{strip_bom}
 use Rattle.csv.specs.Writing.{default_writer, row_text}
+pub use Rattle.word_table.specs.Lines.{is_line, ended, lines_text}
 use Rattle.table_csv.specs.Table.{AreRecordsOf, field_of}
 
 -- the fields of each row
 abbrev pub rows : List (Vec (List ℕ)) → List (List (List ℕ))
 rows = map (λ row. row.items)
-
--- no byte is a newline
-abbrev pub is_line : List ℕ → Bool
-is_line bytes = list_all (λ byte. not (byte == 10)) bytes
-
--- a line with its newline
-abbrev pub ended : List ℕ → List ℕ
-ended line = line ++ 10 ∷ []
 
 -- a line for each row, which with its newline is what csv writes of it by its defaults
 abbrev pub AreLinesOf : List (List (List ℕ)) → List (List ℕ) → Type 0
@@ -29,10 +22,6 @@ line_of row = take (length (row_text default_writer row) - 1) (row_text default_
 -- the lines of a table
 abbrev pub lines_of : List (List (List ℕ)) → List (List ℕ)
 lines_of = map line_of
-
--- the lines, each with its newline
-abbrev pub lines_text : List (List ℕ) → List ℕ
-lines_text lines = flat_map ended lines
 
 -- the text of the lines has the rows as its records
 abbrev pub ReadAs : List (List (List ℕ)) → List (List ℕ) → Type 0
