@@ -18,7 +18,7 @@ use Rattle.judgement_matrix.specs.Range.{Bounds, IsRange}
 use Rattle.model_core.specs.Names.{is_name}
 use Rattle.model_core.specs.Categories.{range_of}
 use Rattle.model_core.specs.State.{is_reserved}
-use Rattle.model_core.specs.declared.limits.TheConstants.{LEAST_REACH, MOST_REACH}
+use Rattle.judgement_matrix.specs.declared.reach.TheConstants.{LEAST_REACH, MOST_REACH}
 use Rattle.model_core.proofs.GrammarLemmas.{range_of-IsRange}
 use Rattle.command_read.specs.Forms.{fits as forms_fits, criterion as forms_criterion, judge as forms_judge, weigh_order as forms_weigh_order, weigh as forms_weigh, reach_of as forms_reach_of, group as forms_group, export as forms_export}
 use Rattle.command_read.specs.Forms.{form, no_word, one_word, two_words, three_words, four_words, one_name, two_names, three_names}

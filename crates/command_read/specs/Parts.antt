@@ -11,7 +11,7 @@ use Rattle.judgement_matrix.specs.Values.{fraction_at}
 use Rattle.model_core.specs.Names.{is_name}
 use Rattle.model_core.specs.State.{is_reserved}
 use Rattle.model_core.specs.Categories.{range_of}
-use Rattle.model_core.specs.declared.limits.TheConstants.{LEAST_REACH, MOST_REACH}
+use Rattle.judgement_matrix.specs.declared.reach.TheConstants.{LEAST_REACH, MOST_REACH}
 use Rattle.frac128.specs.Reader.{read_fraction}
 use Rattle.frac128.specs.Chain.{◌>>=◌}
 use Rattle.command_read.specs.declared.refusal.Refusal.{Refusal}

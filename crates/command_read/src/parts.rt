@@ -1,7 +1,7 @@
 //! Parts of commands that keep a fact.
 ghost use Rattle.std.specs.Prelude.{◌≡◌, ◌≤◌, IsTrue, length, false};
 ghost use Rattle.model_core.specs.State.{is_reserved};
-ghost use Rattle.model_core.specs.declared.limits.TheConstants.{LEAST_REACH, MOST_REACH};
+ghost use Rattle.judgement_matrix.specs.declared.reach.TheConstants.{LEAST_REACH, MOST_REACH};
 ghost use Rattle.command_read.specs.Parts.{ends_in_zero};
 
 use frac128::Frac;
@@ -121,7 +121,7 @@ pub struct Reach {
 
 impl Model for Reach {
     ghost use Rattle.std.specs.Prelude.{◌≤◌, ℕ};
-    ghost use Rattle.model_core.specs.declared.limits.TheConstants.{LEAST_REACH, MOST_REACH};
+    ghost use Rattle.judgement_matrix.specs.declared.reach.TheConstants.{LEAST_REACH, MOST_REACH};
 
     ghost Value = { ℕ };
 

@@ -41,7 +41,7 @@ fn pair_count(size: usize) -> usize
     requires { IsSize size }
     ensures value { result ≡ length (pairs size) }
     ensures before { result ≡ pairs_before size (size - 1) }
-    ensures most { result ≤ 276 }
+    ensures most { result ≤ pairs_before LIMIT (LIMIT - 1) }
 {
     size * (size - 1) / 2
 }

@@ -5,6 +5,7 @@ ghost use Rattle.frac128.specs.Problem.{IsRow};
 ghost use Rattle.frac128.specs.Range.{IsInRange};
 ghost use Rattle.integers.specs.Vector.{AreNonNegative};
 ghost use Rattle.judgement_matrix.specs.Matrix.{IsPair};
+ghost use Rattle.judgement_matrix.specs.declared.reach.TheConstants.{LEAST_REACH, MOST_REACH};
 ghost use Rattle.judgement_matrix.specs.Rows.{IsTagAmong};
 ghost use Rattle.lp_macbeth.specs.Closed.{closed_tags, closed_row_of, anchor_up, anchor_down, reach_up, reach_down, outer_coefs, closed_cost, closed_problem_with as problem_with, closed_problem_of};
 ghost use Rattle.lp_macbeth.specs.Gaps.{gap_coefs, opposite};
@@ -31,8 +32,8 @@ pub fn closed_problem(
     b: usize,
 ) -> Result<Problem, NoMemory>
     requires references { IsPair matrix.now.size good neutral }
-    requires least { 100 ≤ reach }
-    requires most { reach ≤ 1000000 }
+    requires least { LEAST_REACH ≤ reach }
+    requires most { reach ≤ MOST_REACH }
     requires apart { a ≢ b }
     requires a { (1 ≤ a) × (a ≤ matrix.now.size) }
     requires b { (1 ≤ b) × (b ≤ matrix.now.size) }
@@ -53,7 +54,7 @@ pub fn closed_problem_with(
     cost: Vec<i128>,
 ) -> Result<Problem, NoMemory>
     requires references { IsPair matrix.now.size good neutral }
-    requires most { reach ≤ 1000000 }
+    requires most { reach ≤ MOST_REACH }
     requires one_each { length cost.items ≡ matrix.now.size }
     requires nonneg { AreNonNegative cost.items }
     requires in_range { All IsInRange cost.items }
@@ -148,7 +149,7 @@ pub(crate) fn push_reaches(
     reach: u32,
 ) -> Result<(), NoMemory>
     requires least { 2 ≤ n }
-    requires most { reach ≤ 1000000 }
+    requires most { reach ≤ MOST_REACH }
     ensures { IfOk result (λ _. rows.new.items
         ≡ rows.old.items ++ reach_up n reach ∷ reach_down n reach ∷ []) }
 {

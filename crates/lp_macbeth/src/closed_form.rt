@@ -7,6 +7,7 @@ ghost use Rattle.frac128.specs.Range.{IsInRange};
 ghost use Rattle.integers.specs.Vector.{AreNonNegative};
 ghost use Rattle.judgement_matrix.specs.Matrix.{IsPair};
 ghost use Rattle.lp_macbeth.specs.Closed.{anchored_rows, closed_cost};
+ghost use Rattle.judgement_matrix.specs.declared.reach.TheConstants.{MOST_REACH};
 ghost use Rattle.lp_macbeth.specs.ClosedThreshold.{high_rows_of, closed_threshold_rows, closed_threshold_row_of, with_thresholds, threshold_form_of, closed_thresholds_with as thresholds_with, closed_thresholds_of, weighting_thresholds_of};
 ghost use Rattle.lp_macbeth.specs.ClosedWeighting.{sum_rows};
 ghost use Rattle.lp_macbeth.specs.Pairs.{ArePairs};
@@ -36,7 +37,7 @@ pub fn closed_thresholds(
     b: usize,
 ) -> Result<Problem, NoMemory>
     requires references { IsPair matrix.now.size good neutral }
-    requires most { reach ≤ 1000000 }
+    requires most { reach ≤ MOST_REACH }
     requires apart { a ≢ b }
     requires a { (1 ≤ a) × (a ≤ matrix.now.size) }
     requires b { (1 ≤ b) × (b ≤ matrix.now.size) }
@@ -57,7 +58,7 @@ pub fn closed_thresholds_with(
     cost: Vec<i128>,
 ) -> Result<Problem, NoMemory>
     requires references { IsPair matrix.now.size good neutral }
-    requires most { reach ≤ 1000000 }
+    requires most { reach ≤ MOST_REACH }
     requires one_each { length cost.items ≡ matrix.now.size }
     requires nonneg { AreNonNegative cost.items }
     requires in_range { All IsInRange cost.items }

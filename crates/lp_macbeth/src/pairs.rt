@@ -3,6 +3,7 @@
 ghost use Rattle.std.specs.Prelude.{◌≡◌, ℕ, ◌+◌, ◌-◌, ◌++◌, ◌<◌, ◌≤◌, ◌∷◌, [], map, IfOk};
 ghost use Rattle.std.specs.List.{flat_map, range_with_len};
 ghost use Rattle.integers.specs.Counting.{numbers_from};
+ghost use Rattle.judgement_matrix.specs.declared.matrix.TheConstants.{LIMIT};
 ghost use Rattle.judgement_matrix.specs.Matrix.{IsPair, pairs as all_pairs, range_at};
 ghost use Rattle.judgement_matrix.specs.Range.{IsRange};
 ghost use Rattle.lp_macbeth.specs.Pairs.{ArePairs, row, under};
@@ -13,7 +14,7 @@ use std::alloc::Global;
 
 /// The pairs of `n` elements in pair order.
 pub fn element_pairs(alloc: Global, n: u8) -> Result<Vec<(u8, u8)>, NoMemory>
-    requires { n ≤ 24 }
+    requires { n ≤ LIMIT }
     ensures { IfOk result (λ pairs. pairs.items ≡ all_pairs n) }
 {
     let mut pairs = Vec::new(alloc);
@@ -26,7 +27,7 @@ pub fn element_pairs(alloc: Global, n: u8) -> Result<Vec<(u8, u8)>, NoMemory>
 // Adds the pairs whose upper element is `p`.
 fn push_row(pairs: &mut Vec<(u8, u8)>, n: u8, p: u8) -> Result<(), NoMemory>
     requires above { p < n }
-    requires most { n ≤ 24 }
+    requires most { n ≤ LIMIT }
     ensures { IfOk result (λ _. pairs.new.items ≡ pairs.old.items ++ row n p) }
 {
     for q in p + 1..n + 1 {

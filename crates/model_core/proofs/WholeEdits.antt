@@ -18,7 +18,8 @@ use Rattle.model_core.specs.Finding.{find_option, find_criterion, find_group, fi
 use Rattle.frac128.specs.Chain.{◌>>=◌, found_or, holds_or}
 use Rattle.model_core.specs.Edits.{Edit, add_option, drop_option, add_criterion, drop_criterion, set_refs, judge, unjudge, perform, set_order, weigh, unweigh, set_reach, set_matrix, add_group, drop_group, place, edited, with_change, with_option, without_option, with_criterion, without_criterion, with_performance, with_order, with_weighting, with_group, without_group, regrouped, new_criterion, places_of, is_permutation, group_named, pair_of, weigh_pair}
 use Rattle.model_core.specs.Whole.{IsWholeCriterion, IsWholeModel, IsLawful}
-use Rattle.model_core.specs.declared.limits.TheConstants.{OPTIONS, CRITERIA, GROUPS, LEAST_REACH, MOST_REACH, NEW_REACH}
+use Rattle.judgement_matrix.specs.declared.reach.TheConstants.{LEAST_REACH, MOST_REACH}
+use Rattle.model_core.specs.declared.limits.TheConstants.{OPTIONS, CRITERIA, GROUPS, NEW_REACH}
 use Rattle.model_core.specs.declared.edit.EditFault.{EditFault}
 use Rattle.model_core.specs.declared.edit.EditFault.TheVariants.{AgainstOrder, UnknownElement, UnknownCriterion, UnknownGroup}
 use Rattle.model_core.proofs.OrderLemmas.{IsOrder-tested}

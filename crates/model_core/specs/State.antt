@@ -7,7 +7,8 @@ use Rattle.integers.specs.Counting.{IsOrder}
 use Rattle.word_table.specs.Words.{AreApart}
 use Rattle.judgement_matrix.specs.Matrix.{Judgements, unjudged}
 use Rattle.judgement_matrix.specs.declared.matrix.TheConstants.{LIMIT}
-use Rattle.model_core.specs.declared.limits.TheConstants.{OPTIONS, CRITERIA, GROUPS, LEAST_REACH, MOST_REACH}
+use Rattle.judgement_matrix.specs.declared.reach.TheConstants.{LEAST_REACH, MOST_REACH}
+use Rattle.model_core.specs.declared.limits.TheConstants.{OPTIONS, CRITERIA, GROUPS}
 
 -- a criterion: its elements in the listed order, the good and the neutral one, the judgements, the reach, its group or the root
 pub record CriterionState : Type 0 where

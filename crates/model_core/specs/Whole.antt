@@ -5,7 +5,7 @@ use Rattle.judgement_matrix.specs.Matrix.{IsMatrix}
 use Rattle.model_core.specs.State.{CriterionState, ModelState, IsCriterion, IsModel, is_reserved}
 use Rattle.model_core.specs.Finding.{matrix_size}
 use Rattle.model_core.specs.Edits.{Edit, add_option, drop_option, add_criterion, drop_criterion, set_refs, judge, unjudge, perform, set_order, weigh, unweigh, set_reach, set_matrix, add_group, drop_group, place}
-use Rattle.model_core.specs.declared.limits.TheConstants.{LEAST_REACH, MOST_REACH}
+use Rattle.judgement_matrix.specs.declared.reach.TheConstants.{LEAST_REACH, MOST_REACH}
 
 -- a criterion whose judgements are a matrix of its elements
 pub record IsWholeCriterion (c : CriterionState) : Type 0 where

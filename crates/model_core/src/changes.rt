@@ -11,11 +11,11 @@ ghost use Rattle.model_core.specs.Edits.{with_option, without_option, with_crite
 use crate::criterion::{Clearing, Criterion, Judgement, Place, Reach, References, Regrouping};
 use crate::edit::EditFault;
 use crate::group::Group;
-use crate::limits::{CRITERIA, GROUPS, LEAST_REACH, MOST_REACH, OPTIONS};
+use crate::limits::{CRITERIA, GROUPS, OPTIONS};
 use crate::model::Model;
 use crate::name::{Name, NoMemory};
 use crate::row::Row;
-use judgement_matrix::{Matrix, Range};
+use judgement_matrix::{LEAST_REACH, MOST_REACH, Matrix, Range};
 use std::alloc::Global;
 
 impl Model {

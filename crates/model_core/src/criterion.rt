@@ -4,15 +4,15 @@ ghost use Rattle.word_table.specs.Words.{AreApart, are_apart};
 ghost use Rattle.judgement_matrix.specs.Matrix.{IsPair, judged, cleared};
 ghost use Rattle.judgement_matrix.specs.declared.matrix.TheConstants.{LIMIT};
 ghost use Rattle.model_core.specs.State.{IsCriterion, is_reserved};
-ghost use Rattle.model_core.specs.declared.limits.TheConstants.{LEAST_REACH, MOST_REACH};
+ghost use Rattle.judgement_matrix.specs.declared.reach.TheConstants.{LEAST_REACH, MOST_REACH};
 ghost use Rattle.model_core.specs.Finding.{find_element};
 ghost use Rattle.model_core.specs.Edits.{new_criterion, moved, regrouped};
 
-use crate::limits::{LEAST_REACH, MOST_REACH, NEW_REACH};
+use crate::limits::NEW_REACH;
 use crate::name::{Name, NoMemory};
 use crate::roster::{Change, Named, Roster};
 use indexmap::IndexSet;
-use judgement_matrix::{Matrix, Range};
+use judgement_matrix::{LEAST_REACH, MOST_REACH, Matrix, Range};
 use std::alloc::Global;
 use std::marker::Model;
 

@@ -11,10 +11,10 @@ ghost use Rattle.model_core.specs.Edits.{Edits, places_of, is_permutation, are_n
 use crate::criterion::{Criterion, are_apart};
 use crate::edit::EditFault;
 use crate::group::Group;
-use crate::limits::{CRITERIA, GROUPS, LEAST_REACH, MOST_REACH, OPTIONS};
+use crate::limits::{CRITERIA, GROUPS, OPTIONS};
 use crate::model::Model;
 use crate::name::{Name, NoMemory};
-use judgement_matrix::{LIMIT, Matrix, Range};
+use judgement_matrix::{LEAST_REACH, LIMIT, MOST_REACH, Matrix, Range};
 
 impl Model {
     /// Adds the last option, which performs on no criterion.

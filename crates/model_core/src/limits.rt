@@ -1,4 +1,5 @@
-//! The limits of a model. The most elements of a criterion are those of a matrix, `judgement_matrix::LIMIT`.
+//! The limits of a model. The most elements of a criterion are those of a matrix, `judgement_matrix::LIMIT`, and the bounds
+//! of its reach stand there too.
 
 /// The most options.
 pub const OPTIONS: usize = 64;
@@ -8,12 +9,6 @@ pub const CRITERIA: usize = 11;
 
 /// The most groups.
 pub const GROUPS: usize = 32;
-
-/// The least reach of a criterion.
-pub const LEAST_REACH: u32 = 100;
-
-/// The greatest reach of a criterion.
-pub const MOST_REACH: u32 = 1_000_000;
 
 /// The reach of a new criterion.
 pub const NEW_REACH: u32 = 1_000;

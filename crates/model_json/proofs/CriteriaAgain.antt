@@ -22,7 +22,8 @@ use Rattle.model_core.specs.Names.{is_name}
 use Rattle.model_core.specs.Lists.{AreNamedApart, find}
 use Rattle.model_core.specs.State.{CriterionState, ModelState, IsCriterion, is_reserved, no_criterion}
 use Rattle.model_core.specs.Edits.{with_criterion}
-use Rattle.model_core.specs.declared.limits.TheConstants.{CRITERIA, LEAST_REACH, MOST_REACH}
+use Rattle.judgement_matrix.specs.declared.reach.TheConstants.{LEAST_REACH, MOST_REACH}
+use Rattle.model_core.specs.declared.limits.TheConstants.{CRITERIA}
 use Rattle.model_json.specs.declared.place.Place.{Place}
 use Rattle.model_json.specs.declared.place.Place.TheVariants as place
 use Rattle.model_json.specs.Steps.{each_into}

@@ -11,10 +11,12 @@ use Rattle.serde_json.specs.Data.{Data, string, object, Members, member, no_memb
 use Rattle.serde_json.specs.View.{items_of}
 use Rattle.judgement_matrix.specs.Range.{Bounds, IsRange, full}
 use Rattle.judgement_matrix.specs.Matrix.{Judgements, IsPair, IsCell, IsMatrix, pairs, pairs_before, place, cell_at}
+use Rattle.judgement_matrix.specs.declared.matrix.TheConstants.{LIMIT}
 use Rattle.judgement_matrix.proofs.EveryLemmas.{every-pairs}
 use Rattle.judgement_matrix.proofs.PlaceLemmas.{length-pairs}
 use Rattle.model_core.specs.State.{CriterionState, GroupState, ModelState}
 use Rattle.model_json.specs.Writing.{whole_number, array_of, judged_at, judgement_data, judgements_data, group_name, with_group_key, group_data, element_name, criterion_data, performance_members, option_data, weighting_data, options_with_rows, criterion_name, model_data, dump_text}
+use Rattle.model_json.specs.declared.writing.TheConstants.{DUMP_TEXT}
 use Rattle.model_json.specs.Kept.{IsNamed, IsNamedCriterion, IsNamedModel}
 use Rattle.model_json.proofs.LineLemmas.{number_length}
 use Rattle.model_json.proofs.LayoutLines.{IsShort}
@@ -99,7 +101,7 @@ cell_within [] i h = (omega arith, omega arith)
 cell_within (cell ∷ cells) zero h = h.0.0
 cell_within (cell ∷ cells) (suc i) h = cell_within cells i h.1
 
-judged_cost : (m : Judgements) (ps : List (ℕ × ℕ)) → m.size ≤ 24 → AllByRecursion IsCell m.cells → AllByRecursion (λ pair. IsPair m.size pair.0 pair.1) ps
+judged_cost : (m : Judgements) (ps : List (ℕ × ℕ)) → m.size ≤ LIMIT → AllByRecursion IsCell m.cells → AllByRecursion (λ pair. IsPair m.size pair.0 pair.1) ps
     → items_cost (items_of (map judgement_data (flat_map (judged_at m) ps))) ≤ 118 * length ps
 judged_cost m [] most cells h = omega arith
 judged_cost m (pair ∷ ps) most cells h =
@@ -147,6 +149,14 @@ judgements_within m k is few =
 
 -- ---- groups and criteria
 
+-- as many pairs as a matrix may have
+abbrev most_pairs : ℕ
+most_pairs = LIMIT * (LIMIT - 1) / 2
+
+-- a criterion with as many elements as it may have
+abbrev criterion_cost : ℕ
+criterion_cost = 1804 + (38 + 148 * LIMIT) + (38 + 118 * most_pairs)
+
 key_within : (m : ModelState) (k : List ℕ) (group : Option ℕ) (ms : Members) (r : ℕ) → AllByRecursion (λ g. IsNamed g.name) m.groups → IsShort k → AreWithin r ms
     → AreWithin (297 + r) (with_group_key m k group ms)
 key_within m k None ms r groups key are = record { within = omega (arith, are.within) }
@@ -162,14 +172,14 @@ group_within m group groups is =
     up 640 all (omega arith)
 
 criterion_within : (m : ModelState) (c : CriterionState) → AllByRecursion (λ g. IsNamed g.name) m.groups → IsNamedCriterion c
-    → IsWithin 38000 (criterion_data m c)
+    → IsWithin criterion_cost (criterion_data m c)
 unfolding criterion_data
 criterion_within m c groups is =
     let names = recursion_from_All IsNamed c.elements is.elements in
-    let few : length c.elements ≤ 24 = is.keeps.most in
-    let elements : IsWithin 3590 (array_of (map string c.elements)) =
-    up 3590 (array_within IsNamed string 148 (λ s h. string_within s (short_name s h)) c.elements names) (omega (arith, few)) in
-    let judgements = judgements_within c.matrix 276 is.matrix (few_pairs c.matrix.size 24 is.matrix.most) in
+    let few : length c.elements ≤ LIMIT = is.keeps.most in
+    let elements : IsWithin (38 + 148 * LIMIT) (array_of (map string c.elements)) =
+    up (38 + 148 * LIMIT) (array_within IsNamed string 148 (λ s h. string_within s (short_name s h)) c.elements names) (omega (arith, few)) in
+    let judgements = judgements_within c.matrix most_pairs is.matrix (few_pairs c.matrix.size LIMIT is.matrix.most) in
     let members = more (short_words (codes "judgements") refl refl) judgements
     (more (short_words (codes "name") refl refl) (string_within c.name (short_name c.name is.named))
     (more (short_words (codes "neutral") refl refl) (string_within (element_name c c.neutral) (short_at c.elements (c.neutral - 1) names))
@@ -177,7 +187,7 @@ criterion_within m c groups is =
     let all = object_within (more (short_words (codes "elements") refl refl) elements
     (more (short_words (codes "good") refl refl) (string_within (element_name c c.good) (short_at c.elements (c.good - 1) names))
     (key_within m (codes "group") c.group _ _ groups (short_words (codes "group") refl refl) members))) in
-    up 38000 all (omega arith)
+    up criterion_cost all (omega arith)
 
 -- ---- options
 
@@ -235,7 +245,7 @@ weighting_within m is named =
     let all = object_within (more (short_words (codes "judgements") refl refl) judgements (more (short_words (codes "order") refl refl) order nothing)) in
     up 9900 all (omega arith)
 
-model_within : (m : ModelState) → IsNamedModel m → IsWithin 700000 (model_data m)
+model_within : (m : ModelState) → IsNamedModel m → IsWithin DUMP_TEXT (model_data m)
 unfolding model_data
 model_within m is =
     let few_criteria : length m.criteria ≤ 11 = is.keeps.few_criteria in
@@ -244,8 +254,8 @@ model_within m is =
     let named = recursion_from_All IsNamedCriterion m.criteria is.criteria in
     let named_groups = recursion_from_All (λ g. IsNamed g.name) m.groups is.groups in
     let each = named_options m.options m.performances (recursion_from_All IsNamed m.options is.options) in
-    let criteria : IsWithin 418038 (array_of (map (criterion_data m) m.criteria)) =
-    up 418038 (array_within IsNamedCriterion (criterion_data m) 38000 (λ c h. criterion_within m c named_groups h) m.criteria named) (omega (arith, few_criteria)) in
+    let criteria : IsWithin (38 + 11 * criterion_cost) (array_of (map (criterion_data m) m.criteria)) =
+    up (38 + 11 * criterion_cost) (array_within IsNamedCriterion (criterion_data m) criterion_cost (λ c h. criterion_within m c named_groups h) m.criteria named) (omega (arith, few_criteria)) in
     let groups : IsWithin 20518 (array_of (map (group_data m) m.groups)) =
     up 20518 (array_within (λ g. IsNamed g.name) (group_data m) 640 (λ g h. group_within m g named_groups h) m.groups named_groups) (omega (arith, few_groups)) in
     let options : IsWithin 243238 (array_of (map (option_data m) (options_with_rows m.options m.performances))) =
@@ -256,8 +266,8 @@ model_within m is =
     (more (short_words (codes "macbeth") refl refl) (number_within 2)
     (more (short_words (codes "options") refl refl) options
     (more (short_words (codes "weighting") refl refl) (weighting_within m is named) nothing))))) in
-    up 700000 all (omega arith)
+    up DUMP_TEXT all (omega arith)
 
-pub size_of_dump : (m : ModelState) → IsNamedModel m → length (dump_text m) ≤ 700000
+pub size_of_dump : (m : ModelState) → IsNamedModel m → length (dump_text m) ≤ DUMP_TEXT
 unfolding dump_text
 size_of_dump m is = omega (arith, layout_size (model_data m) (flat_model m), (model_within m is).within)

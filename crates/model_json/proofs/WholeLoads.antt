@@ -19,7 +19,8 @@ use Rattle.model_core.specs.State.{CriterionState, ModelState, IsCriterion, empt
 use Rattle.model_core.specs.Finding.{find_option, find_criterion, find_group}
 use Rattle.model_core.specs.Edits.{with_criterion, with_group, is_permutation}
 use Rattle.model_core.specs.Whole.{IsWholeCriterion, IsWholeModel}
-use Rattle.model_core.specs.declared.limits.TheConstants.{OPTIONS, CRITERIA, GROUPS, LEAST_REACH, MOST_REACH, NEW_REACH}
+use Rattle.judgement_matrix.specs.declared.reach.TheConstants.{LEAST_REACH, MOST_REACH}
+use Rattle.model_core.specs.declared.limits.TheConstants.{OPTIONS, CRITERIA, GROUPS, NEW_REACH}
 use Rattle.model_core.proofs.CriterionLemmas.{IsModel-grouped_wider}
 use Rattle.model_core.proofs.ModelChanges.{IsModel-with_row, IsModel-reweighed, IsModel-with_group}
 use Rattle.model_core.proofs.OrderLemmas.{IsOrder-tested}

@@ -12,7 +12,8 @@ use Rattle.model_core.specs.Lists.{find}
 use Rattle.model_core.specs.State.{CriterionState, ModelState, empty_model, is_reserved}
 use Rattle.model_core.specs.Finding.{find_option, find_criterion, find_group}
 use Rattle.model_core.specs.Edits.{with_criterion, with_group, is_permutation}
-use Rattle.model_core.specs.declared.limits.TheConstants.{OPTIONS, CRITERIA, GROUPS, LEAST_REACH, MOST_REACH, NEW_REACH}
+use Rattle.judgement_matrix.specs.declared.reach.TheConstants.{LEAST_REACH, MOST_REACH}
+use Rattle.model_core.specs.declared.limits.TheConstants.{OPTIONS, CRITERIA, GROUPS, NEW_REACH}
 use Rattle.model_json.specs.declared.judgements.Numbers.{Numbers}
 use Rattle.model_json.specs.declared.criteria.Details.{Details}
 use Rattle.model_json.specs.declared.place.Place.{Place}

@@ -10,7 +10,7 @@ ghost use Rattle.model_core.specs.Lists.{find};
 ghost use Rattle.model_core.specs.State.{is_reserved};
 ghost use Rattle.model_core.specs.Finding.{find_element};
 ghost use Rattle.model_core.specs.Edits.{with_criterion, group_named};
-ghost use Rattle.model_core.specs.declared.limits.TheConstants.{LEAST_REACH, MOST_REACH};
+ghost use Rattle.judgement_matrix.specs.declared.reach.TheConstants.{LEAST_REACH, MOST_REACH};
 ghost use Rattle.model_json.specs.Steps.{Gives, Reads, each_into, object_at};
 ghost use Rattle.model_json.specs.Reading.{is_free, place_among, element_of, elements_of, element_or, reach_or, free_name_of, references_of, details_of, parts_of, criterion_keys, criterion_of};
 ghost use Rattle.model_json.specs.declared.place.Place.TheVariants as place;

@@ -15,6 +15,7 @@ use crate::kept::model_is_named;
 use crate::values::{
     criterion_value, group_value, judgements_value, performances_value, put_text, text_value,
 };
+use judgement_matrix::LIMIT;
 use model_core::laws::what_a_model_keeps;
 use model_core::{Model, NoMemory};
 use serde_json::{Map, Value, put};
@@ -181,8 +182,8 @@ fn pretty_text(alloc: Global, value: &Value) -> Result<String, NoMemory>
 /// The most bytes of a line of a text that `dump` writes, without its newline.
 pub const DUMP_LINE: usize = 300;
 
-/// The most bytes of a text that `dump` writes: fewer than the 1,048,576 of a block.
-pub const DUMP_TEXT: usize = 700_000;
+/// The most bytes of a text that `dump` writes, by the most elements of a criterion: 700,000, fewer than the 1,048,576 of a block.
+pub const DUMP_TEXT: usize = 28_000 * (LIMIT + 1);
 
 /// The text of a model, in format 2 and in the pretty layout.
 pub fn dump(alloc: Global, model: &Model) -> Result<String, NoMemory>

@@ -1,6 +1,7 @@
 use Rattle.std.proofs.Common.{◌≤◌, ◌==◌, All, length, string_bytes, sym, subst}
 use Rattle.std.specs.List.{slice_split}
 use Rattle.model_json.specs.Writing.{model_data}
+use Rattle.model_json.specs.declared.writing.TheConstants.{DUMP_TEXT}
 use Rattle.model_json.proofs.DumpText.{json_some, shallow_model, text_from_order}
 use Rattle.model_json.proofs.DumpLines.{lines_of_dump}
 use Rattle.model_json.proofs.DumpSize.{size_of_dump}
@@ -31,6 +32,6 @@ pub returns-clause-size : goal.returns-clause-size
 returns-clause-size c =
     let written = rw c.in_ok-value.ensures at c.in_ok-text.ensures in
     let m = c.args.model.now in
-    subst (λ text. length text ≤ 700000)
+    subst (λ text. length text ≤ DUMP_TEXT)
     (sym (text_from_order (string_bytes c.in_ok-text.text) m written.layout written.order))
     (size_of_dump m c.model_is_named.ensures)
