@@ -1,7 +1,6 @@
 -- The first step of several.
 use Rattle.std.proofs.Common.{◌≡◌, List, ◌∷◌, Result, Ok, Err, refl, ap, ◌∙◌}
-use Rattle.frac128.specs.Checked.{◌>>=◌}
-use Rattle.value_scale.specs.Anchor.{checked_each}
+use Rattle.frac128.specs.Chain.{◌>>=◌, checked_each}
 
 -- an item in front of what the others give
 abbrev pub put_first : {X E : Type 0} → X → Result (List X) E → Result (List X) E

@@ -21,7 +21,7 @@ use Rattle.value_scale.specs.declared.basic.Basic.{Basic}
 use Rattle.value_scale.specs.declared.basic.Basic.TheVariants.{Scale, Inconsistent}
 use Rattle.value_scale.specs.declared.slacks.Interval.{Interval}
 use Rattle.value_scale.proofs.MetLemmas.{values_each, met_never_rise, last_is_zero, least_meet}
-use Rattle.value_scale.proofs.ReducedLemmas.{reduced_are_fractions}
+use Rattle.frac128.proofs.ReducedLemmas.{reduced_are_fractions}
 use Rattle.value_scale.proofs.AnchorLemmas.{checked_anchor-means, checked_anchor-reduced}
 use Rattle.value_scale.proofs.SlackLemmas.{checked_slack-means, checked_slack-low}
 use Rattle.swing_weights.specs.Weights.{checked_weights, AreFalling, AreAllZero}

@@ -1,5 +1,5 @@
 -- Lists that a loop fills piece by piece.
-use Rattle.std.proofs.Common.{◌≡◌, ◌<◌, ℕ, zero, suc, ◌+◌, length, get_or, arith, List, [], ◌∷◌, ◌++◌, drop, add-one, refl, ap}
+use Rattle.std.proofs.Common.{◌≡◌, ℕ, zero, suc, ◌+◌, List, [], ◌∷◌, ◌++◌, drop, add-one, ap}
 use Rattle.std.specs.Prelude.{slice_get, Some}
 use Rattle.std.specs.List.{flat_map}
 use Rattle.integers.proofs.Loops.{join_next}
@@ -19,13 +19,3 @@ pieces-push f xs i x done now so_far there made =
   where
     next : flat_map f (drop i xs) ≡ f x ++ flat_map f (drop (i + 1) xs)
     next = rw add-one (next_piece f xs i x there)
-
--- equal in both parts
-pub same_pair : {A B : Type 0} {a b : A} {x y : B} → a ≡ b → x ≡ y → ◌≡◌ {A = A × B} (a, x) (b, y)
-same_pair h k = λ i. (h i, k i)
-
--- the item at a place
-pub read_place : {A : Type 0} (xs : List A) (i : ℕ) (d : A) → i < length xs → slice_get xs i ≡ Some (get_or xs i d)
-read_place [] i d h = absurd (omega arith)
-read_place (x ∷ xs) zero d h = refl
-read_place (x ∷ xs) (suc i) d h = read_place xs i d (omega arith)

@@ -8,7 +8,7 @@ use Rattle.integers.proofs.Writings.{common_writing}
 use Rattle.cert_check.specs.declared.text.CertText.{CertText}
 use Rattle.judgement_matrix.specs.Matrix.{Judgements}
 use Rattle.judgement_matrix.specs.Scale.{IsInconsistent}
-use Rattle.value_scale.proofs.ReducedLemmas.{reduced_are_fractions}
+use Rattle.frac128.proofs.ReducedLemmas.{reduced_are_fractions}
 use Rattle.command_read.specs.declared.command.Command.{Command}
 use Rattle.command_read.specs.declared.command.Command.TheVariants as command
 use Rattle.model_core.specs.State.{ModelState}

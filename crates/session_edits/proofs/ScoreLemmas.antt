@@ -8,7 +8,7 @@ use Rattle.std.proofs.lemmas.List.Elements.{All-nil, All-cons, All-take}
 use Rattle.integers.proofs.Loops.{push_next, join_next}
 use Rattle.lp_macbeth.proofs.PairLemmas.{range_with_len-next}
 use Rattle.frac128.specs.declared.number.TooWide.{TooWide}
-use Rattle.value_scale.specs.Anchor.{checked_each}
+use Rattle.frac128.specs.Chain.{checked_each}
 use Rattle.report_text.specs.declared.reply.Detail.{Detail}
 use Rattle.report_text.specs.declared.reply.Reply.{Reply}
 use Rattle.session_edits.proofs.FirstLemmas.{put_first, first_worked}

@@ -1,25 +1,19 @@
 -- What is read of fractions, and what a formula gives for each thing.
-use Rattle.std.proofs.Common.{◌≡◌, inl, inr, ℕ, ◌-◌, pos, List, [], ◌∷◌, length, get_or, All, Result, Ok, Err, refl, sym, subst}
-use Rattle.std.proofs.lemmas.Bool.{cases_lt}
-use Rattle.std.proofs.lemmas.List.{get_or_past}
+use Rattle.std.proofs.Common.{◌≡◌, ℕ, ◌-◌, pos, List, [], ◌∷◌, get_or, All, Result, Ok, Err, refl, subst}
 use Rattle.std.proofs.lemmas.List.Elements.{All-nil}
 use Rattle.integers.specs.Fraction.{Fraction, IsFraction, AreFractions}
 use Rattle.integers.proofs.FractionSums.{IsFraction-whole}
-use Rattle.frac128.specs.Checked.{◌>>=◌}
+use Rattle.integers.proofs.Lists.{All-get_or_else}
+use Rattle.frac128.specs.Chain.{◌>>=◌, checked_each}
 use Rattle.frac128.specs.declared.number.TooWide.{TooWide}
 use Rattle.judgement_matrix.specs.Values.{fraction_at}
-use Rattle.value_scale.specs.Anchor.{checked_each}
 use Rattle.session_edits.specs.Meaning.{AreEach}
 
--- an item, or what stands for one that isn't there
-read_item : {X : Type 0} (P : X → Type 0) (xs : List X) (i : ℕ) (d : X) → P d → All P xs → P (get_or xs i d)
-read_item P xs i d none h = elim (cases_lt i (length xs)) [ inl l ↦ h i d l | inr g ↦ subst P (sym (get_or_past xs i d g)) none ]
-
 pub read_fraction : (fs : List Fraction) → AreFractions fs → (p : ℕ) → IsFraction (fraction_at fs p)
-read_fraction fs h p = read_item IsFraction fs (p - 1) (record { num = pos 0; den = pos 1 }) (IsFraction-whole (pos 0)) h
+read_fraction fs h p = All-get_or_else IsFraction fs (p - 1) (record { num = pos 0; den = pos 1 }) (IsFraction-whole (pos 0)) h
 
 pub read_worth : (worths : List (List Fraction)) → All AreFractions worths → (k : ℕ) → AreFractions (get_or worths k [])
-read_worth worths h k = read_item AreFractions worths k [] (All-nil IsFraction) h
+read_worth worths h k = All-get_or_else AreFractions worths k [] (All-nil IsFraction) h
 
 abbrev worked_so : {A : Type 0} → A → Result A TooWide
 worked_so a = Ok a

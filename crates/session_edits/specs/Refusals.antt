@@ -1,5 +1,6 @@
 -- Refusals of a session, by their numbers.
 use Rattle.std.specs.Prelude.{◌≡◌, ℕ, Result, Ok, Err}
+pub use Rattle.frac128.specs.Chain.{◌>>=◌}
 use Rattle.frac128.specs.declared.number.TooWide.{TooWide}
 use Rattle.model_core.specs.State.{ModelState}
 use Rattle.model_core.specs.Finding.{criterion_at}
@@ -46,11 +47,6 @@ or_too_wide (Err wide) = Err (refused TOO_WIDE)
 abbrev pub or_refused : Result Reply Reply → Reply
 or_refused (Ok r) = r
 or_refused (Err refusal) = refusal
-
-infixl 10 ◌>>=◌
-abbrev pub ◌>>=◌ : {A B : Type 0} → Result A Reply → (A → Result B Reply) → Result B Reply
-(Ok x) >>= f = f x
-(Err refusal) >>= f = Err refusal
 
 -- what a call gives is what is worked, or it stops with the refusal; or memory is wanted
 abbrev pub Works : {V X : Type 0} → (V → X) → Result X Reply → Result V Stop → Type 0

@@ -5,7 +5,7 @@ use Rattle.std.specs.Option.{option_map_or}
 use Rattle.integers.specs.Fraction.{Fraction, fraction_of}
 use Rattle.frac128.specs.declared.number.TooWide.{TooWide}
 use Rattle.judgement_matrix.specs.Values.{fraction_at}
-use Rattle.value_scale.specs.Anchor.{checked_each}
+use Rattle.frac128.specs.Chain.{checked_each}
 use Rattle.value_scale.specs.declared.basic.Basic.{Basic}
 use Rattle.swing_weights.specs.Score.{checked_score}
 use Rattle.model_core.specs.State.{ModelState, GroupState}

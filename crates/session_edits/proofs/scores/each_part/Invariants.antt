@@ -1,6 +1,6 @@
 use Rattle.std.proofs.Common.{◌≡◌, ◌++◌, ◌-◌, length, Ok}
 use Rattle.std.specs.List.{range_with_len}
-use Rattle.value_scale.specs.Anchor.{checked_each}
+use Rattle.frac128.specs.Chain.{checked_each}
 use Rattle.session_edits.specs.Refusals.{or_too_wide, ◌>>=◌}
 use Rattle.session_edits.specs.Scores.{partial_score, criteria_under, checked_parts}
 use Rattle.session_edits.proofs.scores.each_part.Given as goal

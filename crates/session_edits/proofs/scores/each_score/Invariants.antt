@@ -1,6 +1,6 @@
 use Rattle.std.proofs.Common.{◌≡◌, ◌++◌, ◌-◌, length, Ok}
 use Rattle.std.specs.List.{range_with_len}
-use Rattle.value_scale.specs.Anchor.{checked_each}
+use Rattle.frac128.specs.Chain.{checked_each}
 use Rattle.session_edits.specs.Refusals.{or_too_wide, ◌>>=◌}
 use Rattle.session_edits.specs.Scores.{score_of, each_score}
 use Rattle.session_edits.proofs.scores.each_score.Given as goal
