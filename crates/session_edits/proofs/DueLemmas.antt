@@ -5,10 +5,11 @@ use Rattle.std.specs.List.{list_any}
 use Rattle.std.specs.Option.{option_map, option_and_then}
 use Rattle.std.proofs.lemmas.Bool.Decides.{nat_tests}
 use Rattle.word_table.specs.Words.{are_apart}
+use Rattle.frac128.specs.Chain.{◌>>=◌, found_or, holds_or}
 use Rattle.judgement_matrix.specs.declared.matrix.TheConstants.{LIMIT}
 use Rattle.model_core.specs.State.{ModelState}
 use Rattle.model_core.specs.Finding.{find_option, find_criterion, find_group, find_element, criterion_at, weigh_place}
-use Rattle.model_core.specs.Edits.{Edit, ◌>>=◌, found, holds, edited, places_of, is_permutation, group_named, pair_of, with_order}
+use Rattle.model_core.specs.Edits.{Edit, edited, places_of, is_permutation, group_named, pair_of, with_order}
 use Rattle.model_core.specs.declared.limits.TheConstants.{OPTIONS, CRITERIA, GROUPS}
 use Rattle.model_core.specs.declared.edit.EditFault.{EditFault}
 use Rattle.model_core.specs.declared.edit.EditFault.TheVariants as fault
@@ -28,12 +29,12 @@ Agrees list (Err refused) = first_due list ≡ Some (number_of refused)
 -- ---- steps
 
 due_found : {A : Type 0} (o : Option A) (refused : EditFault) (f : A → Result ModelState EditFault) (d : A) (rest : A → List Cause)
-    → ((a : A) → Agrees (rest a) (f a)) → Agrees ((is_none o, number_of refused) ∷ rest (unwrap_or o d)) (found refused o >>= f)
+    → ((a : A) → Agrees (rest a) (f a)) → Agrees ((is_none o, number_of refused) ∷ rest (unwrap_or o d)) (found_or refused o >>= f)
 due_found None refused f d rest h = refl
 due_found (Some a) refused f d rest h = h a
 
 due_test : (b c : Bool) (refused : EditFault) (f : Unit {0} → Result ModelState EditFault) (rest : List Cause) → c ≡ not b
-    → Agrees rest (f tt) → Agrees ((c, number_of refused) ∷ rest) (holds refused b >>= f)
+    → Agrees rest (f tt) → Agrees ((c, number_of refused) ∷ rest) (holds_or refused b >>= f)
 due_test true true refused f rest e h = cc
 due_test true false refused f rest e h = h
 due_test false true refused f rest e h = refl
@@ -41,27 +42,27 @@ due_test false false refused f rest e h = cc
 
 -- a name that isn't taken, and room for one more
 due_free : (o : Option ℕ) (f : Unit {0} → Result ModelState EditFault) (rest : List Cause) → Agrees rest (f tt)
-    → Agrees (taken o ∷ rest) (holds fault.NameTaken (not (is_some o)) >>= f)
+    → Agrees (taken o ∷ rest) (holds_or fault.NameTaken (not (is_some o)) >>= f)
 due_free None f rest h = h
 due_free (Some a) f rest h = refl
 
 due_room : (most count : ℕ) (f : Unit {0} → Result ModelState EditFault) (rest : List Cause) → Agrees rest (f tt)
-    → Agrees (at_most most (count + 1) ∷ rest) (holds fault.LimitReached (nat_lt count most) >>= f)
+    → Agrees (at_most most (count + 1) ∷ rest) (holds_or fault.LimitReached (nat_lt count most) >>= f)
 due_room most count f rest = due_test (nat_lt count most) (nat_lt most (count + 1)) fault.LimitReached f rest (grind (arith, nat_tests))
 
 due_few : (most count : ℕ) (f : Unit {0} → Result ModelState EditFault) (rest : List Cause) → Agrees rest (f tt)
-    → Agrees (at_most most count ∷ rest) (holds fault.LimitReached (nat_le count most) >>= f)
+    → Agrees (at_most most count ∷ rest) (holds_or fault.LimitReached (nat_le count most) >>= f)
 due_few most count f rest = due_test (nat_le count most) (nat_lt most count) fault.LimitReached f rest (grind (arith, nat_tests))
 
 -- two places, the first above the second
 due_pair : (refused : EditFault) (p q : Option ℕ) (f : ℕ × ℕ → ModelState)
     → Agrees ((is_none p, number_of refused) ∷ (is_none q, number_of refused) ∷ no_descent p q ∷ [])
-    ((found refused p >>= λ p. found refused q >>= λ q. holds fault.AgainstOrder (nat_lt p q) >>= λ above. Ok (p, q)) >>= λ pair. Ok (f pair))
+    ((found_or refused p >>= λ p. found_or refused q >>= λ q. holds_or fault.AgainstOrder (nat_lt p q) >>= λ above. Ok (p, q)) >>= λ pair. Ok (f pair))
 due_pair refused None q f = refl
 due_pair refused (Some p) None f = refl
 due_pair refused (Some p) (Some q) f = by_order (nat_lt p q)
   where
-    by_order : (b : Bool) → Agrees ((not b, AGAINST_THE_ORDER) ∷ []) ((holds fault.AgainstOrder b >>= λ above. Ok (p, q)) >>= λ pair. Ok (f pair))
+    by_order : (b : Bool) → Agrees ((not b, AGAINST_THE_ORDER) ∷ []) ((holds_or fault.AgainstOrder b >>= λ above. Ok (p, q)) >>= λ pair. Ok (f pair))
     by_order true = refl
     by_order false = refl
 
@@ -71,7 +72,7 @@ due_parent : (m : ModelState) (parent : Option (List ℕ)) (f : Option ℕ → R
 due_parent m None f rest h = h None
 due_parent m (Some name) f rest h = by_place (find_group m name)
   where
-    by_place : (o : Option ℕ) → Agrees ((is_none o, UNKNOWN_GROUP) ∷ rest) ((found fault.UnknownGroup o >>= λ g. Ok (Some g)) >>= f)
+    by_place : (o : Option ℕ) → Agrees ((is_none o, UNKNOWN_GROUP) ∷ rest) ((found_or fault.UnknownGroup o >>= λ g. Ok (Some g)) >>= f)
     by_place None = refl
     by_place (Some g) = h (Some g)
 
@@ -109,15 +110,15 @@ module _ (m : ModelState) (names : List (List ℕ)) where
 
   abbrev ordered : Option (List ℕ) → Result ModelState EditFault
   ordered places = do
-    order ← found fault.UnknownCriterion places
-    each ← holds fault.NotPermutation (is_permutation (length m.criteria) order)
+    order ← found_or fault.UnknownCriterion places
+    each ← holds_or fault.NotPermutation (is_permutation (length m.criteria) order)
     Ok (with_order m order)
 
   due_order : Agrees (order_causes (are_unknown m names)) (ordered (places_of m names))
   due_order = by_found (are_unknown m names) (places_of m names) (find_all m names)
     where
       by_test : (places : List ℕ) (b : Bool)
-          → Agrees ((not b, NO_PERMUTATION) ∷ []) (holds fault.NotPermutation b >>= λ each. Ok (with_order m places))
+          → Agrees ((not b, NO_PERMUTATION) ∷ []) (holds_or fault.NotPermutation b >>= λ each. Ok (with_order m places))
       by_test places true = refl
       by_test places false = refl
 
@@ -136,7 +137,7 @@ module _ (s : SessionState) where
   -- two elements of a criterion that is named
   of_elements : (name x y : List ℕ) (f : ℕ → ℕ × ℕ → ModelState)
       → Agrees (no_criterion m name ∷ of_pair (criterion_of m name) x y)
-      (found fault.UnknownCriterion (find_criterion m name) >>= λ c. pair_of (criterion_at m c) x y >>= λ pair. Ok (f c pair))
+      (found_or fault.UnknownCriterion (find_criterion m name) >>= λ c. pair_of (criterion_at m c) x y >>= λ pair. Ok (f c pair))
   of_elements name x y f =
       due_found (find_criterion m name) fault.UnknownCriterion (λ c. pair_of (criterion_at m c) x y >>= λ pair. Ok (f c pair)) 0
       (λ c. of_pair (criterion_at m c) x y)

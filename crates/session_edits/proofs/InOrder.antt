@@ -6,9 +6,10 @@ use Rattle.std.specs.Str.{bytes_eq}
 use Rattle.std.proofs.lemmas.Option.{slice_get-get_or}
 use Rattle.std.proofs.lemmas.Bool.Decides.{nat_tests}
 use Rattle.integers.specs.Fraction.{Fraction}
+use Rattle.frac128.specs.Chain.{◌>>=◌, found_or}
 use Rattle.judgement_matrix.specs.Matrix.{Judgements}
 use Rattle.model_core.specs.State.{ModelState}
-use Rattle.model_core.specs.Edits.{Edit, edited, set_matrix, with_change, with_weighting, found, ◌>>=◌}
+use Rattle.model_core.specs.Edits.{Edit, edited, set_matrix, with_change, with_weighting}
 use Rattle.model_core.specs.Finding.{find_option, find_criterion, find_element, criterion_at}
 use Rattle.model_core.specs.declared.edit.EditFault.{EditFault}
 use Rattle.model_core.specs.declared.edit.EditFault.TheVariants.{UnknownCriterion}
@@ -171,13 +172,13 @@ module _ (s next : SessionState) (r : Reply) where
   accepts_matrix name subject matrix = by_name (bytes_eq name (codes "weighting"))
     where
       by_criterion : (o : Option ℕ) → option_map Criterion o ≡ Some subject
-          → (after : ModelState) × ((found UnknownCriterion o >>= λ c. Ok (with_change s.model c (λ criterion. record criterion { matrix = matrix }))) ≡ Ok after)
+          → (after : ModelState) × ((found_or UnknownCriterion o >>= λ c. Ok (with_change s.model c (λ criterion. record criterion { matrix = matrix }))) ≡ Ok after)
       by_criterion None e = absurd (cc)
       by_criterion (Some c) e = (_, refl)
 
       by_name : (b : Bool) → cond b (weighting_of s.model) (option_map Criterion (find_criterion s.model name)) ≡ Some subject
           → (after : ModelState) × (cond b (Ok (with_weighting s.model matrix))
-          (found UnknownCriterion (find_criterion s.model name) >>= λ c. Ok (with_change s.model c (λ criterion. record criterion { matrix = matrix }))) ≡ Ok after)
+          (found_or UnknownCriterion (find_criterion s.model name) >>= λ c. Ok (with_change s.model c (λ criterion. record criterion { matrix = matrix }))) ≡ Ok after)
       by_name true e = (with_weighting s.model matrix, refl)
       by_name false e = by_criterion (find_criterion s.model name) e
 

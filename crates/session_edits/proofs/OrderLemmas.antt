@@ -4,6 +4,7 @@ use Rattle.std.specs.Prelude.{MatchOption, unwrap_or, Contains}
 use Rattle.std.specs.List.{zip}
 use Rattle.std.specs.Option.{option_map}
 use Rattle.integers.specs.Fraction.{Fraction}
+use Rattle.frac128.specs.Chain.{◌>>=◌}
 use Rattle.frac128.specs.declared.number.TooWide.{TooWide}
 use Rattle.judgement_matrix.specs.declared.tag.Fit.{Fit}
 use Rattle.judgement_matrix.specs.declared.tag.Fit.TheVariants as fit
@@ -27,7 +28,7 @@ use Rattle.report_text.specs.declared.reply.Reply.TheVariants as reply
 use Rattle.session_state.specs.State.{ResultsState, SessionState, matrix_of}
 use Rattle.session_state.specs.declared.subject.Subject.{Subject}
 use Rattle.session_state.specs.declared.subject.Subject.TheVariants.{Criterion, Weighting}
-use Rattle.session_edits.specs.Refusals.{refused, number_of, or_refused, or_too_wide, ◌>>=◌}
+use Rattle.session_edits.specs.Refusals.{refused, number_of, or_refused, or_too_wide}
 use Rattle.session_edits.specs.Subjects.{weighting_of, all_subjects}
 use Rattle.session_edits.specs.Edits.{Shows, Refuses, OfBlock, AnswersEdited}
 use Rattle.session_edits.specs.Matrices.{fit_reply, verdict_reply}
