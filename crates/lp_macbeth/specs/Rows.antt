@@ -39,3 +39,7 @@ problem_of m = record {
   cost = replicate (m.size - 1) (pos 1);
   rows = map (row_of m) (judged_rows m);
 }
+
+-- the same with only the rows of these tags
+abbrev pub problem_on : Judgements → List Tag → ProblemData
+problem_on m tags = record { vars = m.size - 1; cost = replicate (m.size - 1) (pos 1); rows = map (row_of m) tags }

@@ -5,7 +5,7 @@ ghost use Rattle.frac128.specs.Problem.{IsRow};
 ghost use Rattle.judgement_matrix.specs.Matrix.{IsPair};
 ghost use Rattle.judgement_matrix.specs.Rows.{IsTagAmong};
 ghost use Rattle.lp_macbeth.specs.Gaps.{gap_coefs, opposite};
-ghost use Rattle.lp_macbeth.specs.Rows.{cross_coefs, row_of, tagged_rows, problem_of};
+ghost use Rattle.lp_macbeth.specs.Rows.{cross_coefs, row_of, tagged_rows, problem_of, problem_on};
 
 use crate::gaps::{push_copies, push_cross, push_difference, push_opposite};
 use crate::pairs::range;
@@ -32,7 +32,16 @@ pub fn problem(alloc: Global, matrix: &Matrix) -> Result<Problem, NoMemory>
     ensures { IfOk result (λ problem. problem ≡ problem_of matrix.now) }
 {
     let tags = judged_tags(alloc, matrix)?;
-    let rows = untagged(alloc, matrix, tags.as_slice())?;
+    problem_of_tags(alloc, matrix, tags.as_slice())
+}
+
+/// The same problem with only the constraints of these tags, in their order.
+pub fn problem_of_tags(alloc: Global, matrix: &Matrix, tags: &[Tag]) -> Result<Problem, NoMemory>
+    requires size { 2 ≤ matrix.now.size }
+    requires tags { All (IsTagAmong matrix.now.size) tags.now }
+    ensures { IfOk result (λ problem. problem ≡ problem_on matrix.now tags.now) }
+{
+    let rows = untagged(alloc, matrix, tags)?;
     let vars = matrix.size() - 1;
     let mut cost = Vec::new(alloc);
     push_copies(&mut cost, 1, vars)?;

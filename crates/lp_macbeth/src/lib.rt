@@ -23,7 +23,7 @@ pub use closed::{closed_problem, closed_problem_with};
 pub use closed_form::{closed_thresholds, closed_thresholds_with, weighting_thresholds};
 pub use closed_translation::{translate_closed, translate_weighting};
 pub use frac128::NoMemory;
-pub use gap_rows::{problem, rows};
+pub use gap_rows::{problem, problem_of_tags, rows};
 pub use pairs::element_pairs;
 pub use row_tags::tags_at;
 pub use tags::judged_tags;

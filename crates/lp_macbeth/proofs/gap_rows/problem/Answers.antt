@@ -1,15 +1,6 @@
-use Rattle.std.proofs.Common.{◌-◌, ◌++◌, ◌∙◌, replicate, pos, All, ap, sym, subst}
-use Rattle.frac128.specs.Problem.{IsRow}
+use Rattle.std.proofs.Common.{All, sym, subst}
 use Rattle.judgement_matrix.specs.Rows.{IsTagAmong}
-use Rattle.lp_macbeth.proofs.RangeLemmas.{IsProblem-ones}
 use Rattle.lp_macbeth.proofs.gap_rows.problem.Goals as goal
 
-pub make-requires-2 : goal.make-requires-2
-make-requires-2 c =
-    let k = c.size-vars.result - 1 in
-    IsProblem-ones k c.make.result c.in_ok-rows.rows
-    (c.make.ensures ∙ c.in_ok-push_copies.ensures ∙ ap (λ l. l ++ replicate k (pos 1)) c.new-cost.ensures.items)
-    (subst (λ s. All (IsRow (s - 1)) c.in_ok-rows.rows) (sym c.size-vars.ensures.value) c.in_ok-rows.ensures.fit)
-
-pub untagged-requires : goal.untagged-requires
-untagged-requires c = subst (All (IsTagAmong c.args.matrix.now.size)) (sym c.as_slice.ensures.value) c.in_ok-tags.ensures.among
+pub problem_of_tags-requires-clause-tags : goal.problem_of_tags-requires-clause-tags
+problem_of_tags-requires-clause-tags c = subst (All (IsTagAmong c.args.matrix.now.size)) (sym c.as_slice.ensures.value) c.in_ok-tags.ensures.among
