@@ -17,6 +17,8 @@ pub mod PlaceLemmas
 pub mod PrintedWords
 pub mod PrintingLemmas
 pub mod ReachedLemmas
+pub mod RowLemmas
+pub mod RefutingLemmas
 pub mod SpanLemmas
 pub mod SumLemmas
 pub mod TextExistence

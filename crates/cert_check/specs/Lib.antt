@@ -6,5 +6,6 @@ pub mod Lines
 pub mod Places
 pub mod Printing
 pub mod Reading
+pub mod Refuting
 pub mod Rows
 pub mod Text

@@ -102,8 +102,8 @@ fn below(tags: &[Tag], number: u64) -> usize
     low
 }
 
-// A tag as a number.
-fn rank(tag: Tag) -> u64
+/// A tag as a number.
+pub(crate) fn rank(tag: Tag) -> u64
     ensures { result ≡ rank_of tag }
 {
     match tag {
