@@ -164,6 +164,15 @@ impl Matrix {
         (range, is_judged)
     }
 
+    /// The place of the pair of elements `p` and `q`, which count from 1, in pair order, from 0.
+    pub fn place(&self, p: usize, q: usize) -> usize
+        requires { IsPair self.now.size p q }
+        ensures value { result ≡ place self.now.size p q }
+        ensures within { result < length self.now.cells }
+    {
+        place_of(self.size(), p, q)
+    }
+
     /// Judges the pair of elements `p` and `q`, which count from 1.
     pub fn set(&mut self, p: usize, q: usize, range: Range)
         requires { IsPair self.old.size p q }
