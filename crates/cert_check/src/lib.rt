@@ -23,6 +23,6 @@ pub use places::check_text;
 pub use placing::{Placed, name_rows, place};
 pub use printing::{print_cert, read_printed};
 pub use reading::read_cert;
-pub use refuting::refutes;
+pub use refuting::{cert_of_tags, refutes};
 pub use text::{CertFault, CertText, Claim};
 pub use verdict::{Place, Verdict};

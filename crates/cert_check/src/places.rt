@@ -53,8 +53,8 @@ fn at_places(alloc: Global, matrix: &Matrix, text: &CertText) -> Result<Cert, No
     })
 }
 
-// The entries by the positions of their tags among these.
-fn placed(
+/// The entries by the positions of their tags among these.
+pub(crate) fn placed(
     alloc: Global,
     tags: &[Tag],
     entries: &[(Tag, i128)],

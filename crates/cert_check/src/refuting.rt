@@ -3,15 +3,15 @@
 ghost use Rattle.std.specs.Prelude.{◌≡◌, ◌↔◌, ◌≤◌, ◌<◌, IsTrue, IfOk, map, length};
 ghost use Rattle.judgement_matrix.specs.Matrix.{IsPair, range_at};
 ghost use Rattle.cert_check.specs.Places.{rank as rank_of};
-ghost use Rattle.cert_check.specs.Refuting.{TellsWhetherFarkas, TellsWhetherRefuted, IsRowOf, IsRowInOrder, AreRowsInOrder, numbered as numbered_from};
+ghost use Rattle.cert_check.specs.Refuting.{TellsWhetherFarkas, TellsWhetherRefuted, IsRowOf, IsRowInOrder, AreRowsInOrder, numbered as numbered_from, placed_on};
 
 use crate::check::check_farkas;
-use crate::places::rank;
+use crate::places::{placed, rank};
 use crate::verdict::Verdict;
 use frac128::problem::{Cert, Problem};
 use frac128::{List, NoMemory, TooWide};
 use judgement_matrix::{Matrix, Range, Tag};
-use lp_macbeth::problem_of_tags;
+use lp_macbeth::{judged_tags, problem_of_tags};
 use std::alloc::Global;
 
 /// Whether the entries, each at the position of its tag among the rows of `lp_macbeth::problem(matrix)`, are a Farkas certificate of
@@ -147,4 +147,22 @@ fn numbered(alloc: Global, entries: &[(Tag, i128)]) -> Result<List<(usize, i128)
         on.push((i, entries[i].1))?;
     }
     Ok(List::make(on))
+}
+
+/// The entries by the positions of their tags among the rows of `lp_macbeth::problem(matrix)`, over 1. A tag that is no row stands past
+/// the last one.
+pub fn cert_of_tags(
+    alloc: Global,
+    matrix: &Matrix,
+    entries: &[(Tag, i128)],
+) -> Result<Cert, NoMemory>
+    ensures { IfOk result (λ cert. cert ≡ placed_on matrix.now entries.now) }
+{
+    // For the prover alone: a read of the size tells what every matrix keeps.
+    matrix.size();
+    let tags = judged_tags(alloc, matrix)?;
+    Ok(Cert {
+        den: 1,
+        on: placed(alloc, tags.as_slice(), entries)?,
+    })
 }
