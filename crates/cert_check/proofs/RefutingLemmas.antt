@@ -1,10 +1,11 @@
 -- Entries by tags: the rows that they name, placed among all rows of a matrix or numbered by themselves, make one combination.
-use Rattle.std.specs.Prelude.{Bool, IsTrue, true, false, Result, Ok, Err, Contains}
+use Rattle.std.specs.Prelude.{Bool, IsTrue, true, false, Result, Ok, Err, Option, Some, slice_get, Contains}
 use Rattle.std.specs.List.{AllByRecursion, position_or_len}
 use Rattle.std.proofs.Common.{◌≡◌, ◌↔◌, ◌⊎◌, inl, inr, ℕ, zero, suc, ◌+◌, ◌-◌, ◌<◌, ◌≤◌, List, [], ◌∷◌, length, get_or, map, replicate, All, ℤ, pos, ◌*ℤ◌, ◌≤ℤ◌, ◌<ℤ◌, refl, sym, ap, ap₂, subst, ◌∙◌, arith}
 use Rattle.std.proofs.lemmas.Bool.{cases_lt}
 use Rattle.std.proofs.lemmas.List.{length-map, get_or-map, get_or_default}
 use Rattle.std.proofs.lemmas.List.Elements.{All-nil}
+use Rattle.std.proofs.lemmas.Option.{get_or_from_slice_get, slice_get_within}
 use Rattle.integers.specs.Vector.{dot, add, weighted_sum}
 use Rattle.frac128.specs.Problem.{ProblemData, AreRowMultipliers, IsFarkasCertificate, row_at, multipliers, rows_on, combination}
 use Rattle.frac128.specs.Range.{IsInRange}
@@ -23,8 +24,9 @@ use Rattle.cert_check.specs.declared.verdict.Place.TheVariants.{Den, Entry, Colu
 use Rattle.cert_check.specs.Places.{at_place, is_same_tag, rank, Rise}
 use Rattle.cert_check.specs.Refuting.{placed_on, Refute, TellsWhetherFarkas, tag_at, IsRowOf, IsRowInOrder, AreRowsInOrder, numbered}
 use Rattle.cert_check.proofs.EntryLemmas.{AreRowMultipliers-from_entries, IsEntry-at}
-use Rattle.cert_check.proofs.PlaceLemmas.{Rise-judged_rows}
-use Rattle.cert_check.proofs.RowLemmas.{Stands, Stands-below, Stands-listed, listed-Stands, IsRowOf-listed, listed-IsRowOf}
+use Rattle.cert_check.specs.Rows.{AreNamed, by_place, by_tag}
+use Rattle.cert_check.proofs.PlaceLemmas.{Rise-judged_rows, place-found}
+use Rattle.cert_check.proofs.RowLemmas.{Stands, Stands-below, Stands-listed, listed-Stands, IsRowOf-listed, listed-IsRowOf, tag_is_same}
 
 -- ---- a combination by the rows that are named, each with its multiplier
 
@@ -347,3 +349,30 @@ not_in_order m on matrix none = (
   λ r. absurd (none (in_order_from_placed m on matrix
       (subst (λ n. AreRowMultipliers n (map (at_place (judged_rows m)) on)) (length-map (judged_rows m) (row_of m)) r.entries))),
 )
+
+-- ---- a certificate by tags, where it is one by positions
+
+named_is_placed : (m : Judgements) → Rise (judged_rows m) → (on : List (Tag × ℤ)) (placed : List (ℕ × ℤ)) → AreNamed m on placed
+    → placed ≡ map (at_place (judged_rows m)) on
+named_is_placed m rise [] [] h = refl
+named_is_placed m rise [] (p ∷ placed) h = absurd (cc)
+named_is_placed m rise (e ∷ on) [] h = absurd (cc)
+named_is_placed m rise (e ∷ on) (p ∷ placed) h =
+    let first : ◌≡◌ {A = Option Tag × ℤ} (by_place m p) (by_tag e) = cc in
+    let rest : map (by_place m) placed ≡ map by_tag on = cc in
+    let tag : slice_get (judged_rows m) p.0 ≡ Some e.0 = ap (λ (x : Option Tag × ℤ). x.0) first in
+    let multiplier : p.1 ≡ e.1 = ap (λ (x : Option Tag × ℤ). x.1) first in
+    let inside = slice_get_within (judged_rows m) p.0 e.0 tag in
+    let here : get_or (judged_rows m) p.0 (Lower 0 0) ≡ e.0 = get_or_from_slice_get (judged_rows m) p.0 e.0 (Lower 0 0) tag in
+    let place : p.0 ≡ position_or_len (is_same_tag e.0) (judged_rows m) =
+        place-found (judged_rows m) e.0 p.0 inside
+        (λ k l. let up = rise k p.0 l inside in let at = ap rank here in omega arith)
+        (subst (λ t. is_same_tag e.0 t ≡ true) (sym here) (tag_is_same e.0)) in
+    ap₂ (λ (x : ℕ × ℤ) (l : List (ℕ × ℤ)). x ∷ l) (λ i. (place i, multiplier i)) (named_is_placed m rise on placed rest)
+
+-- a Farkas certificate refutes by its tags
+pub named_refutes : (m : Judgements) (on : List (Tag × ℤ)) (cert : Cert) → IsMatrix m → AreNamed m on cert.on → IsFarkasCertificate (problem_of m) cert → Refute m on
+named_refutes m on cert matrix named h =
+    let placed = named_is_placed m (Rise-judged_rows m matrix) on cert.on named in
+    subst (λ l. IsFarkasCertificate (problem_of m) (record { den = pos 1; on = l })) placed
+    (record { entries = h.entries; none_above = h.none_above; bound_above = h.bound_above })

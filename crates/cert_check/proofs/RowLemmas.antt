@@ -132,7 +132,7 @@ same_tag (Order p) (Zero x y) e = absurd (cc)
 same_tag (Order p) (Cross x y v w) e = absurd (cc)
 same_tag (Order p) (Order x) e = let i : p ≡ x = grind (arith, nat_tests) in cc
 
-tag_is_same : (a : Tag) → is_same_tag a a ≡ true
+pub tag_is_same : (a : Tag) → is_same_tag a a ≡ true
 tag_is_same (Lower p q) = grind (arith, nat_tests)
 tag_is_same (Zero p q) = grind (arith, nat_tests)
 tag_is_same (Cross p q x y) = grind (arith, nat_tests)
