@@ -3,11 +3,11 @@ ghost use Rattle.std.specs.Prelude.{◌≤◌};
 use crate::problems::three;
 use cert_check::{
     CertFault, Place, Placed, Verdict, check_dual, check_farkas, place, print_cert, read_cert,
-    read_printed,
+    read_printed, refutes,
 };
 use frac128::problem::{Cert, Problem, Row};
 use frac128::{Frac, List, NoMemory, TooWide};
-use judgement_matrix::Matrix;
+use judgement_matrix::{Matrix, Tag};
 use std::alloc::Global;
 use std::process::Abort;
 use std::test::Fail;
@@ -181,5 +181,43 @@ fn a_refutation_over_less_than_nothing(rt: HostRuntime) -> Result<(), Fail> {
         check_farkas(&problem, &Cert { den: -7, on }),
         Ok(Verdict::Holds)
     );
+    Ok(())
+}
+
+// Whether entries refute the matrix of three judgements; nothing where a number is out of range.
+fn refuted(
+    alloc: Global,
+    judged: [u8; 3],
+    entries: [(Tag, i128); 2],
+) -> Result<Option<bool>, Fail> {
+    let matrix = three(alloc, judged)?;
+    Ok(refutes(alloc, &matrix, entries.as_slice())?.ok())
+}
+
+// That the first pair stands further apart than the second refutes 3, 2, 2, and no matrix in which it isn't to.
+#[test]
+fn entries_by_tags(rt: HostRuntime) -> Result<(), Fail> {
+    let cross = Tag::Cross(1, 2, 1, 3);
+    let lower = Tag::Lower(2, 3);
+    for (judged, entries, want) in [
+        ([3, 2, 2], [(lower, 0), (cross, 1)], Some(true)),
+        ([4, 3, 2], [(lower, 1), (cross, 2)], Some(true)),
+        // No row of the matrix.
+        ([2, 2, 2], [(lower, 0), (cross, 1)], Some(false)),
+        ([3, 2, 2], [(Tag::Order(1), 0), (cross, 1)], Some(false)),
+        // A row twice, and rows in the wrong order.
+        ([3, 2, 2], [(cross, 1), (cross, 1)], Some(false)),
+        ([3, 2, 2], [(cross, 1), (lower, 1)], Some(false)),
+        // A multiplier below 0, a sum of gaps, nothing, and a number out of range.
+        ([3, 2, 2], [(lower, 0), (cross, -1)], Some(false)),
+        ([3, 2, 2], [(lower, 1), (cross, 0)], Some(false)),
+        ([3, 2, 2], [(lower, 0), (cross, 0)], Some(false)),
+        ([3, 1, 2], [(lower, 0), (cross, i128::MAX)], None),
+    ] {
+        assert!(rt;
+            refuted(rt.alloc(), judged, entries)? == want,
+            "at {judged:?}"
+        );
+    }
     Ok(())
 }
