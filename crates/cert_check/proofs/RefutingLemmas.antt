@@ -1,9 +1,9 @@
 -- Entries by tags: the rows that they name, placed among all rows of a matrix or numbered by themselves, make one combination.
-use Rattle.std.specs.Prelude.{Bool, IsTrue, true, false, Result, Ok, Err, Option, Some, slice_get, Contains}
+use Rattle.std.specs.Prelude.{Bool, true, false, Result, Ok, Err, Option, Some, slice_get}
 use Rattle.std.specs.List.{AllByRecursion, position_or_len}
-use Rattle.std.proofs.Common.{◌≡◌, ◌↔◌, ◌⊎◌, inl, inr, ℕ, zero, suc, ◌+◌, ◌-◌, ◌<◌, ◌≤◌, List, [], ◌∷◌, length, get_or, map, replicate, All, ℤ, pos, ◌*ℤ◌, ◌≤ℤ◌, ◌<ℤ◌, refl, sym, ap, ap₂, subst, ◌∙◌, arith}
+use Rattle.std.proofs.Common.{◌≡◌, ◌⊎◌, inl, inr, ℕ, zero, suc, ◌+◌, ◌-◌, ◌<◌, ◌≤◌, List, [], ◌∷◌, length, get_or, map, replicate, All, ℤ, pos, ◌*ℤ◌, ◌≤ℤ◌, ◌<ℤ◌, refl, sym, ap, ap₂, subst, ◌∙◌, arith}
 use Rattle.std.proofs.lemmas.Bool.{cases_lt}
-use Rattle.std.proofs.lemmas.List.{length-map, get_or-map, get_or_default}
+use Rattle.std.proofs.lemmas.List.{length-map, get_or-map}
 use Rattle.std.proofs.lemmas.List.Elements.{All-nil}
 use Rattle.std.proofs.lemmas.Option.{get_or_from_slice_get, slice_get_within}
 use Rattle.integers.specs.Vector.{dot, add, weighted_sum}
@@ -18,11 +18,11 @@ use Rattle.judgement_matrix.specs.declared.tag.Tag.TheVariants.{Lower, Zero, Cro
 use Rattle.judgement_matrix.specs.Rows.{IsTagAmong}
 use Rattle.lp_macbeth.specs.Rows.{row_of, judged_rows, problem_of, problem_on}
 use Rattle.cert_check.specs.Entries.{IsEntry, entry_at, products_on, added_in_turn, coefficient, bound}
-use Rattle.cert_check.specs.Lines.{Check, IsBefore, Passes, IsReached, IsFirstTooWide, IsCommonLine, farkas_check}
+use Rattle.cert_check.specs.Lines.{IsBefore, Passes, IsReached, IsFirstTooWide, IsCommonLine, farkas_check}
 use Rattle.cert_check.specs.declared.verdict.Place.{Place}
 use Rattle.cert_check.specs.declared.verdict.Place.TheVariants.{Den, Entry, Column, Bound}
 use Rattle.cert_check.specs.Places.{at_place, is_same_tag, rank, Rise}
-use Rattle.cert_check.specs.Refuting.{placed_on, Refute, TellsWhetherFarkas, tag_at, IsRowOf, IsRowInOrder, AreRowsInOrder, numbered}
+use Rattle.cert_check.specs.Refuting.{placed_on, Refute, TellsWhetherFarkas, tag_at, IsRowOf, AreRowsInOrder, numbered}
 use Rattle.cert_check.proofs.EntryLemmas.{AreRowMultipliers-from_entries, IsEntry-at}
 use Rattle.cert_check.specs.Rows.{AreNamed, by_place, by_tag}
 use Rattle.cert_check.proofs.PlaceLemmas.{Rise-judged_rows, place-found}
@@ -365,9 +365,9 @@ named_is_placed m rise (e ∷ on) (p ∷ placed) h =
     let inside = slice_get_within (judged_rows m) p.0 e.0 tag in
     let here : get_or (judged_rows m) p.0 (Lower 0 0) ≡ e.0 = get_or_from_slice_get (judged_rows m) p.0 e.0 (Lower 0 0) tag in
     let place : p.0 ≡ position_or_len (is_same_tag e.0) (judged_rows m) =
-        place-found (judged_rows m) e.0 p.0 inside
-        (λ k l. let up = rise k p.0 l inside in let at = ap rank here in omega arith)
-        (subst (λ t. is_same_tag e.0 t ≡ true) (sym here) (tag_is_same e.0)) in
+    place-found (judged_rows m) e.0 p.0 inside
+    (λ k l. let up = rise k p.0 l inside in let at = ap rank here in omega arith)
+    (subst (λ t. is_same_tag e.0 t ≡ true) (sym here) (tag_is_same e.0)) in
     ap₂ (λ (x : ℕ × ℤ) (l : List (ℕ × ℤ)). x ∷ l) (λ i. (place i, multiplier i)) (named_is_placed m rise on placed rest)
 
 -- a Farkas certificate refutes by its tags

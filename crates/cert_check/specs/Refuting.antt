@@ -1,5 +1,5 @@
 -- Entries that name rows by their tags, as a refutation of a matrix.
-use Rattle.std.specs.Prelude.{◌≡◌, ◌↔◌, ℕ, ◌+◌, ◌<◌, ◌≤◌, ℤ, pos, Bool, List, [], ◌∷◌, map, length, get_or, IsTrue, Result, Ok, Err, Contains}
+use Rattle.std.specs.Prelude.{◌≡◌, ◌↔◌, ℕ, ◌+◌, ◌<◌, ◌≤◌, ℤ, pos, Bool, List, [], ◌∷◌, map, length, get_or, IsTrue, Result, Ok, Err}
 use Rattle.frac128.specs.Problem.{ProblemData, IsFarkasCertificate}
 use Rattle.frac128.specs.declared.number.TooWide.{TooWide}
 use Rattle.frac128.specs.declared.problem.Cert.{Cert}

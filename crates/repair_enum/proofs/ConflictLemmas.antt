@@ -1,6 +1,6 @@
 -- A conflict leads on to each repair: some entry of the certificate gives a child that lies between 0 and it.
 use lib.IntN.{*ℤ_comm}
-use Rattle.std.proofs.Common.{◌≡◌, ◌⊎◌, inl, inr, ℕ, zero, suc, ◌+◌, ◌<◌, ◌≤◌, ℤ, pos, negsuc, ◌+ℤ◌, ◌-ℤ◌, ◌*ℤ◌, ◌≤ℤ◌, ◌<ℤ◌, List, [], ◌∷◌, length, refl, sym, ap, subst, ◌∙◌, arith}
+use Rattle.std.proofs.Common.{◌≡◌, ◌⊎◌, inl, inr, ℕ, ◌+◌, ◌<◌, ◌≤◌, ℤ, pos, negsuc, ◌+ℤ◌, ◌-ℤ◌, ◌*ℤ◌, ◌≤ℤ◌, ◌<ℤ◌, List, length, refl, sym, ap, subst, ◌∙◌, arith}
 use Rattle.std.specs.Int.Signed.{≤ℤ_refl}
 use Rattle.integers.proofs.Laws.{lin}
 use Rattle.integers.proofs.Order.{lt_cases, mul_le, le_of_lt}
@@ -13,7 +13,7 @@ use Rattle.judgement_matrix.specs.Repair.{IsLawfulShift, IsStepBetween, IsBetwee
 use Rattle.judgement_matrix.specs.declared.tag.Tag.{Tag}
 use Rattle.judgement_matrix.specs.declared.tag.Tag.TheVariants.{Lower, Zero, Cross, Order}
 use Rattle.judgement_matrix.proofs.PlaceLemmas.{place-below}
-use Rattle.lp_macbeth.specs.Rows.{judged_rows, problem_of}
+use Rattle.lp_macbeth.specs.Rows.{problem_of}
 use Rattle.cert_check.specs.Rows.{NeverRises}
 use Rattle.cert_check.specs.Refuting.{IsRowOf}
 use Rattle.cert_check.proofs.FailsLemmas.{fails_named_row}

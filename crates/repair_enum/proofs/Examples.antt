@@ -14,7 +14,7 @@ use Rattle.judgement_matrix.specs.declared.tag.Tag.TheVariants.{Lower, Cross}
 use Rattle.lp_macbeth.specs.Rows.{judged_rows, problem_of}
 use Rattle.judgement_matrix.specs.declared.shift.Shift.{Shift}
 use Rattle.repair_enum.specs.Children.{IsChild, IsRelief}
-use Rattle.repair_enum.specs.Levels.{IsRefuted, IsChildOfLevel, AreRefuted, AreChildren, AreInOrder, AreLevelsOf}
+use Rattle.repair_enum.specs.Levels.{IsRefuted, IsChildOfLevel, AreRefuted, AreChildren, AreLevelsOf}
 
 abbrev abc : Judgements
 abc = record { size = 3; cells = (bounds 3 3, true) ∷ (bounds 2 2, true) ∷ (bounds 2 2, true) ∷ [] }

@@ -10,7 +10,7 @@ use Rattle.judgement_matrix.proofs.LawfulLemmas.{lawful_length}
 use Rattle.judgement_matrix.proofs.ShiftLemmas.{IsLawfulShift-zeros}
 use Rattle.cert_check.proofs.FailsLemmas.{farkas_refutes_scales}
 use Rattle.repair_enum.specs.Children.{LeadsTo}
-use Rattle.repair_enum.specs.Levels.{no_shift, AreLevels, AreNext, Ends, Covers, AreOfTotal, shifts_of, AreRefuted, AreChildren}
+use Rattle.repair_enum.specs.Levels.{no_shift, AreLevels, Ends, Covers, AreOfTotal, shifts_of, AreRefuted, AreChildren}
 use Rattle.repair_enum.proofs.BetweenLemmas.{total_le, total_same, zeros_between, zeros_total}
 use Rattle.repair_enum.proofs.ConflictLemmas.{conflicts_lead, child_total}
 

@@ -1,5 +1,5 @@
 -- Levels of shifts: the shift of zeros, and then the children of each level (this project's own).
-use Rattle.std.specs.Prelude.{◌≡◌, ◌↔◌, ℕ, ◌+◌, ◌≤◌, ℤ, pos, List, [], ◌∷◌, length, map, replicate, ⊤, Contains}
+use Rattle.std.specs.Prelude.{◌≡◌, ◌↔◌, ℕ, ◌≤◌, ℤ, pos, List, [], ◌∷◌, length, map, replicate, ⊤, Contains}
 use Rattle.std.specs.List.{AllByRecursion}
 use Rattle.frac128.specs.Problem.{IsFarkasCertificate}
 use Rattle.frac128.specs.declared.problem.Cert.{Cert}

@@ -4,7 +4,7 @@ use Rattle.frac128.specs.declared.problem.Cert.{Cert}
 use Rattle.judgement_matrix.specs.Rows.{IsTagAmong}
 use Rattle.lp_macbeth.specs.Rows.{problem_on}
 use Rattle.cert_check.specs.Refuting.{TellsWhetherFarkas, AreRowsInOrder}
-use Rattle.cert_check.proofs.RefutingLemmas.{own_tags, own_cert, tags_among, tells, not_in_order}
+use Rattle.cert_check.proofs.RefutingLemmas.{own_tags, tags_among, tells, not_in_order}
 use Rattle.cert_check.proofs.refuting.refutes.Goals as goal
 
 pub returns-then-not-are_rows_in_order : goal.returns-then-not-are_rows_in_order

@@ -1,4 +1,4 @@
-use Rattle.std.proofs.Common.{◌≡◌, ◌++◌, ℕ, ℤ, drop, map}
+use Rattle.std.proofs.Common.{◌≡◌, ◌++◌, ℤ, drop, map}
 use Rattle.judgement_matrix.specs.declared.tag.Tag.{Tag}
 use Rattle.cert_check.proofs.refuting.tags_of.Given as goal
 
