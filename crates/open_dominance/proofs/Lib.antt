@@ -1,0 +1,9 @@
+pub mod OpenLemmas
+pub mod MixLemmas
+pub mod ClosureLemmas
+pub mod LeastLemmas
+pub mod LineLemmas
+pub mod WeightLemmas
+pub mod SumLemmas
+pub mod OrderLemmas
+pub mod ShareLemmas
