@@ -7,3 +7,4 @@ pub mod WeightLemmas
 pub mod SumLemmas
 pub mod OrderLemmas
 pub mod ShareLemmas
+pub mod GapLemmas

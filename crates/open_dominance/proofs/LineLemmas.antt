@@ -91,9 +91,10 @@ less_is_line z (x ∷ w) = ap₂ (λ y ys. y ∷ ys) (ring2 (λ x z. x ⊖ z ≗
 value_at-lowered : (w : List ℤ) (e p : ℕ) → 1 ≤ p → p ≤ length w → value_at (lowered w e) p ≡ value_at w p -ℤ value_at w e
 value_at-lowered w e p low within = get_or-map (λ x. x -ℤ value_at w e) w (p - 1) (pos 0) (pos 0) (omega arith)
 
-difference-lowered : (w : List ℤ) (e p q : ℕ) → IsPair (length w) p q → difference (lowered w e) p q ≡ difference w p q
-difference-lowered w e p q pair =
-    ap₂ (λ x y. x -ℤ y) (value_at-lowered w e p (omega arith) (omega arith)) (value_at-lowered w e q (omega arith) (omega arith))
+pub difference-lowered : (w : List ℤ) (e p q : ℕ) → (1 ≤ p) × (p ≤ length w) → (1 ≤ q) × (q ≤ length w)
+    → difference (lowered w e) p q ≡ difference w p q
+difference-lowered w e p q hp hq =
+    ap₂ (λ x y. x -ℤ y) (value_at-lowered w e p hp.0 hp.1) (value_at-lowered w e q hq.0 hq.1)
     ∙ ring3 (λ x y z. (x ⊖ z) ⊖ (y ⊖ z) ≗ x ⊖ y) refl (value_at w p) (value_at w q) (value_at w e)
 
 IsMetInClosure-lowered : (m : Judgements) (w : List ℤ) (e : ℕ) → length w ≡ m.size → IsMetInClosure m w → IsMetInClosure m (lowered w e)
@@ -114,7 +115,7 @@ closure_of_closed m refs w r n pair h =
         each = length-lowered w refs.neutral ∙ each;
         good_is = value_at-lowered w refs.neutral refs.good (omega arith) (omega (arith, each)) ∙ h.anchored ∙ ring1 (λ n. n ⊗ con (pos 100) ≗ con (pos 100) ⊗ n) refl n;
         neutral_is = value_at-lowered w refs.neutral refs.neutral (omega arith) (omega (arith, each)) ∙ ring1 (λ z. z ⊖ z ≗ con (pos 0)) refl (value_at w refs.neutral);
-        reached = subst (λ z. z ≤ℤ (pos refs.reach *ℤ n)) (sym (difference-lowered w refs.neutral 1 m.size (omega (arith, each))))
+        reached = subst (λ z. z ≤ℤ (pos refs.reach *ℤ n)) (sym (difference-lowered w refs.neutral 1 m.size (omega (arith, each)) (omega (arith, each))))
             (omega (arith, lin, room, reached, ring2 (λ n r. n ⊗ r ≗ r ⊗ n) refl n (pos refs.reach)));
       };
       closed = IsMetInClosure-lowered m w refs.neutral each h.meets;
@@ -127,7 +128,7 @@ closed_of_closure m refs v n pair h =
     let good_is = h.within.good_is in
     let neutral_is = h.within.neutral_is in
     let reached = h.within.reached in
-    let across = difference-lowered v m.size 1 m.size (omega (arith, each)) in
+    let across = difference-lowered v m.size 1 m.size (omega (arith, each)) (omega (arith, each)) in
     let turned = ring2 (λ n r. n ⊗ r ≗ r ⊗ n) refl n (pos refs.reach) in
     record {
       scale = record {
@@ -136,7 +137,7 @@ closed_of_closure m refs v n pair h =
         last = value_at-lowered v m.size m.size (omega arith) (omega (arith, each)) ∙ ring1 (λ z. z ⊖ z ≗ con (pos 0)) refl (value_at v m.size);
       };
       meets = IsMetInClosure-lowered m v m.size each h.closed;
-      anchored = difference-lowered v m.size refs.good refs.neutral (subst (λ n. IsPair n refs.good refs.neutral) (sym each) pair)
+      anchored = difference-lowered v m.size refs.good refs.neutral (omega (arith, each)) (omega (arith, each))
           ∙ ap₂ (λ x y. x -ℤ y) good_is neutral_is ∙ ring1 (λ n. con (pos 100) ⊗ n ⊖ con (pos 0) ≗ n ⊗ con (pos 100)) refl n;
       room = omega (arith, lin, reached, turned);
       reached = omega (arith, lin, across);

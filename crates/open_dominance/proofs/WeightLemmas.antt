@@ -19,11 +19,11 @@ use Rattle.open_dominance.specs.Open.{IsOpenWeighting}
 
 -- ---- lists that end with 0
 
-all_but_last : (n : ℕ) (w : List ℤ) → length w ≡ suc n → get_or w n (pos 0) ≡ pos 0 → take n w ++ pos 0 ∷ [] ≡ w
-all_but_last n [] each e = absurd (omega (arith, each))
-all_but_last zero (x ∷ []) each e = ap (λ z. z ∷ []) (sym e)
-all_but_last zero (x ∷ y ∷ w) each e = absurd (omega (arith, each))
-all_but_last (suc n) (x ∷ w) each e = ap (λ zs. x ∷ zs) (all_but_last n w (omega (arith, each)) e)
+pub all_but_last : (n : ℕ) (w : List ℤ) → length w ≡ suc n → take n w ++ get_or w n (pos 0) ∷ [] ≡ w
+all_but_last n [] each = absurd (omega (arith, each))
+all_but_last zero (x ∷ []) each = refl
+all_but_last zero (x ∷ y ∷ w) each = absurd (omega (arith, each))
+all_but_last (suc n) (x ∷ w) each = ap (λ zs. x ∷ zs) (all_but_last n w (omega (arith, each)))
 
 some : (w : List ℤ) → pos 0 <ℤ int_sum (swings w) → 1 ≤ length w
 some [] h = absurd (omega (arith, lin, h))
@@ -87,4 +87,4 @@ least_weights_open m w n k d met pd h = record {
     same : scale t (k ++ pos 0 ∷ []) ≡ scale d w
     same =
         scale-append t k (pos 0 ∷ []) ∙ ap₂ (λ x y. x ++ y) h.each (none t ∙ sym (none d)) ∙ sym (scale-append d (swings w) (pos 0 ∷ []))
-        ∙ ap (λ z. scale d z) (all_but_last (length w - 1) w (omega (arith, low)) last)
+        ∙ ap (λ z. scale d z) (ap (λ z. swings w ++ z ∷ []) (sym last) ∙ all_but_last (length w - 1) w (omega (arith, low)))

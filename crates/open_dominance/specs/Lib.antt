@@ -1,3 +1,4 @@
 pub mod Open
 pub mod Dominance
 pub mod Share
+pub mod Gap

@@ -1,4 +1,11 @@
 //! Open scales and weightings, and dominance: whether one option scores at least as much as another under all of them.
 #![tactic(auto)]
 
+mod gap;
 pub mod laws;
+mod least_gap;
+mod scales;
+
+pub use gap::Gap;
+pub use least_gap::least_gap_beside;
+pub use value_scale::ScaleFault as DomFault;
