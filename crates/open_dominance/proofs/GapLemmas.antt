@@ -33,7 +33,7 @@ use Rattle.lp_macbeth.proofs.ClosedRowLemmas.{IsCost-closed}
 use Rattle.lp_macbeth.proofs.GapLemmas.{length-scale_of}
 use Rattle.lp_macbeth.proofs.ScaleLemmas.{scale_is}
 use Rattle.model_core.specs.State.{CriterionState, IsCriterion}
-use Rattle.open_dominance.specs.Gap.{HasClosureScale, references_of, IsClosureScaleOf, ahead, IsLeastDifference, checked_lowered, checked_scale, checked_least, checked_gap, gap_problem, gap_form, GapRunEnds, IsReadGap, IsGapFound}
+use Rattle.open_dominance.specs.Gap.{HasClosureScale, references_of, IsClosureScaleOf, ahead, IsLeastDifference, checked_lowered, checked_scale, checked_least, checked_gap, gap_problem, gap_form, RunEnds, IsReadGap, IsGapFound}
 use Rattle.open_dominance.specs.declared.gap.Gap.{Gap}
 use Rattle.lex_simplex.specs.Turn.{IsRun}
 use Rattle.lex_simplex.specs.declared.end.End.{End}
@@ -293,11 +293,10 @@ gaps_are_there c a b point value h =
     omega (arith, long, length-over h.is.x h.is.n, h.is.least.feasible.one_each)
 
 -- what is read after a run that found a least point
-pub found_by : (c : CriterionState) (a b : ℕ) (answer : Result Gap ScaleFault) → GapRunEnds c a b (Ok Optimal) → IsReadGap c a b answer → IsGapFound c a b answer
+pub found_by : (c : CriterionState) (a b : ℕ) (answer : Result Gap ScaleFault) → RunEnds (gap_form c a b) (Ok Optimal) → IsReadGap c a b answer → IsGapFound c a b answer
 found_by c a b (Ok gap) run read = (run, read)
 found_by c a b (Err fault.TooWide) run read = inr (run, read)
 found_by c a b (Err fault.NoMemory) run read = tt
 
-pub run_found : (c : CriterionState) (a b : ℕ) (form : ProblemData) (end : End) (pivots : ℕ) → form ≡ gap_form c a b → end ≡ Optimal
-    → IsRun form (Ok end) pivots → GapRunEnds c a b (Ok Optimal)
-run_found c a b form end pivots same optimal run = (pivots, subst₂ (λ p e. IsRun p (Ok e) pivots) same optimal run)
+pub run_found : (p form : ProblemData) (end : End) (pivots : ℕ) → form ≡ p → end ≡ Optimal → IsRun form (Ok end) pivots → RunEnds p (Ok Optimal)
+run_found p form end pivots same optimal run = (pivots, subst₂ (λ p e. IsRun p (Ok e) pivots) same optimal run)

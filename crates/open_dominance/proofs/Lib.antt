@@ -8,3 +8,4 @@ pub mod SumLemmas
 pub mod OrderLemmas
 pub mod ShareLemmas
 pub mod GapLemmas
+pub mod WeighingLemmas

@@ -85,9 +85,9 @@ gap_problem c a b = closed_problem_of c.matrix c.good c.neutral c.reach a b
 abbrev pub gap_form : CriterionState → ℕ → ℕ → ProblemData
 gap_form c a b = closed_thresholds_of c.matrix c.good c.neutral c.reach a b
 
--- the run of the form ends so
-abbrev pub GapRunEnds : CriterionState → ℕ → ℕ → Result End PivotFault → Type 0
-GapRunEnds c a b end = (pivots : ℕ) × IsRun (gap_form c a b) end pivots
+-- the run of a problem ends so
+abbrev pub RunEnds : ProblemData → Result End PivotFault → Type 0
+RunEnds p end = (pivots : ℕ) × IsRun p end pivots
 
 -- worked from the value and the gaps of the form's least point, which are taken in lowest terms
 pub record IsWorkedGap (c : CriterionState) (a b : ℕ) (value : Fraction) (worked : Result (Fraction × List Fraction) Wide) : Type 0 where
@@ -114,9 +114,9 @@ IsReadGap c a b (Err fault.NoMemory) = Unit {0}
 
 -- the least gap of two elements that aren't one; it is too wide exactly where the run is, or what is worked from its least point
 abbrev pub IsGapFound : CriterionState → ℕ → ℕ → Result Gap ScaleFault → Type 0
-IsGapFound c a b (Ok gap) = GapRunEnds c a b (Ok Optimal) × IsGapApart c a b gap
-IsGapFound c a b (Err fault.TooWide) = GapRunEnds c a b (Err pivot.TooWide)
-    ⊎ (GapRunEnds c a b (Ok Optimal) × ((value : Fraction) × IsWorkedGap c a b value (Err (record {}))))
+IsGapFound c a b (Ok gap) = RunEnds (gap_form c a b) (Ok Optimal) × IsGapApart c a b gap
+IsGapFound c a b (Err fault.TooWide) = RunEnds (gap_form c a b) (Err pivot.TooWide)
+    ⊎ (RunEnds (gap_form c a b) (Ok Optimal) × ((value : Fraction) × IsWorkedGap c a b value (Err (record {}))))
 IsGapFound c a b (Err fault.NoMemory) = Unit {0}
 
 -- ---- the answer

@@ -2,3 +2,4 @@ pub mod Open
 pub mod Dominance
 pub mod Share
 pub mod Gap
+pub mod Weighing

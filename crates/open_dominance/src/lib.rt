@@ -5,7 +5,9 @@ mod gap;
 pub mod laws;
 mod least_gap;
 mod scales;
+mod weighing;
 
 pub use gap::Gap;
 pub use least_gap::least_gap_beside;
 pub use value_scale::ScaleFault as DomFault;
+pub use weighing::{WeightingMinimum, weighting_minimum};

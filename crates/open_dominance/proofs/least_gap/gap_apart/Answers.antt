@@ -1,3 +1,4 @@
+use Rattle.open_dominance.specs.Gap.{gap_form}
 use Rattle.open_dominance.proofs.GapLemmas.{found_by, run_found}
 use Rattle.open_dominance.proofs.least_gap.gap_apart.Goals as goal
 
@@ -11,5 +12,5 @@ returns-in-Ok-clause-found c =
     let reach = c.reach-reach.ensures.value in
     let matrix = c.matrix.ensures.value in
     let form = rw (good, neutral, reach, matrix) at c.in_ok-form.ensures in
-    found_by d a.a a.b c.gap_of_outcome.result (run_found d a.a a.b c.in_ok-form.form _ run.0 form c.gap_of_outcome.ensures.end run.1)
+    found_by d a.a a.b c.gap_of_outcome.result (run_found (gap_form d a.a a.b) c.in_ok-form.form _ run.0 form c.gap_of_outcome.ensures.end run.1)
     c.gap_of_outcome.ensures.read
