@@ -9,3 +9,5 @@ pub mod OrderLemmas
 pub mod ShareLemmas
 pub mod GapLemmas
 pub mod WeighingLemmas
+pub mod PermutedLemmas
+pub mod TestLemmas

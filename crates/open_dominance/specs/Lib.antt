@@ -3,3 +3,4 @@ pub mod Dominance
 pub mod Share
 pub mod Gap
 pub mod Weighing
+pub mod Test

@@ -5,9 +5,11 @@ mod gap;
 pub mod laws;
 mod least_gap;
 mod scales;
+mod test;
 mod weighing;
 
 pub use gap::Gap;
 pub use least_gap::least_gap_beside;
+pub use test::is_never_below;
 pub use value_scale::ScaleFault as DomFault;
 pub use weighing::{WeightingMinimum, weighting_minimum};
