@@ -11,3 +11,4 @@ pub mod GapLemmas
 pub mod WeighingLemmas
 pub mod PermutedLemmas
 pub mod TestLemmas
+pub mod ComparedLemmas

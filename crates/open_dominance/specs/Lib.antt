@@ -4,3 +4,4 @@ pub mod Share
 pub mod Gap
 pub mod Weighing
 pub mod Test
+pub mod Compared

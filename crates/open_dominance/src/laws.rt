@@ -1,7 +1,8 @@
 //! What the definitions in the contracts amount to: functions that do nothing, whose contracts are the laws.
 
 ghost use Rattle.std.specs.Prelude.{◌≡◌, ℕ, ◌↔◌, ◌∷◌, ◌++◌, [], List, ℤ, pos, length, ◌+ℤ◌, ◌-ℤ◌, ◌*ℤ◌, ◌≤ℤ◌, ◌<ℤ◌};
-ghost use Rattle.integers.specs.Fraction.{Fraction, IsFraction};
+ghost use Rattle.std.specs.List.{AllByRecursion};
+ghost use Rattle.integers.specs.Fraction.{Fraction, IsFraction, IsWriting};
 ghost use Rattle.integers.specs.Vector.{running_sums, AreNonNegative};
 ghost use Rattle.judgement_matrix.specs.Matrix.{Judgements, IsPair};
 ghost use Rattle.judgement_matrix.specs.Scale.{difference, IsMetBy};
@@ -9,6 +10,7 @@ ghost use Rattle.lp_macbeth.specs.Closed.{IsClosedScale};
 ghost use Rattle.lp_macbeth.specs.ClosedWeighting.{IsClosedWeighting};
 ghost use Rattle.open_dominance.specs.Open.{IsMetOpenly, AreOpenDifferences, IsMetInClosure, References, IsOpenScale, IsClosureScale, IsOpenWeighting, IsClosureWeighting, lowered, mix};
 ghost use Rattle.open_dominance.specs.Dominance.{Ground, HaveOpenPoints, HasClosedLead, LeadsDominate, Dominates, leads_over, differences, AreLeastLeads, IsLeastSum};
+ghost use Rattle.open_dominance.specs.Compared.{Compared, grounds, uppers, lowers, leasts, IsLeastCompared, HasNoSumBelow};
 ghost use Rattle.open_dominance.specs.Share.{share, mixed_value, IsShare};
 ghost use Rattle.swing_weights.specs.Weights.{AreShares};
 ghost use Rattle.value_scale.specs.Anchor.{IsAnchoredScale};
@@ -96,6 +98,14 @@ pub fn sums_along_the_order_decide()
 pub fn options_dominate_over_closures()
     ensures { (m : Judgements) (cs : List Ground) (upper lower : List ℕ) → HaveOpenPoints m cs
         → Dominates m cs upper lower ↔ HasClosedLead m cs (differences upper lower) }
+{}
+
+/// States that where open points exist, an option dominates another exactly where no weighting of the closure gives the least gaps of
+/// their elements a sum below 0; criteria stand in the order of the weighting. It does nothing.
+pub fn least_gaps_decide_dominance()
+    ensures { (m : Judgements) (xs : List Compared) (g : List ℤ) (d : ℤ) → HaveOpenPoints m (grounds xs)
+        → AllByRecursion IsLeastCompared xs → IsWriting (leasts xs) g d
+        → Dominates m (grounds xs) (uppers xs) (lowers xs) ↔ HasNoSumBelow m g }
 {}
 
 /// States that an option dominates itself, and that it dominates what an option that it dominates does. It does nothing.
