@@ -12,3 +12,4 @@ pub mod WeighingLemmas
 pub mod PermutedLemmas
 pub mod TestLemmas
 pub mod ComparedLemmas
+pub mod OwnLemmas

@@ -1,10 +1,12 @@
 -- The least gap of a criterion: the least difference of two elements over the closure of its open scales, and how it is found.
-use Rattle.std.specs.Prelude.{◌≡◌, ◌⊎◌, ℕ, ◌-◌, ℤ, pos, List, [], ◌∷◌, take, All, Some, None, nat_lt, Result, Ok, Err, if◌then◌else◌}
+use Rattle.std.specs.Prelude.{◌≡◌, ◌⊎◌, ℕ, ◌-◌, ℤ, pos, ◌*ℤ◌, ◌≤ℤ◌, List, [], ◌∷◌, take, All, Some, None, nat_lt, Result, Ok, Err, if◌then◌else◌}
 use Rattle.frac128.specs.Checked.{◌>>=◌, checked_difference}
 use Rattle.frac128.specs.Frac.{IsReduced}
 use Rattle.frac128.specs.Problem.{ProblemData, IsSpanCertificate}
 use Rattle.frac128.specs.declared.number.TooWide.{TooWide as Wide}
 use Rattle.integers.specs.Fraction.{Fraction, FractionAtMost, SameFraction, IsWriting, fraction_of}
+use Rattle.judgement_matrix.specs.Least.{IsLeastScale}
+use Rattle.judgement_matrix.specs.Matrix.{Judgements}
 use Rattle.judgement_matrix.specs.Scale.{difference}
 use Rattle.judgement_matrix.specs.Values.{fraction_at}
 use Rattle.lex_simplex.specs.Answer.{IsLeastAnswer}
@@ -18,6 +20,11 @@ use Rattle.lp_macbeth.specs.ClosedThreshold.{closed_thresholds_of}
 use Rattle.model_core.specs.State.{CriterionState}
 use Rattle.open_dominance.specs.Open.{References, IsClosureScale}
 use Rattle.open_dominance.specs.declared.gap.Gap.{Gap}
+use Rattle.value_scale.specs.Anchor.{IsAnchoredScale, checked_anchor}
+use Rattle.value_scale.specs.Basic.{IsFound}
+use Rattle.value_scale.specs.declared.basic.Basic.{Basic}
+use Rattle.value_scale.specs.declared.basic.Basic.TheVariants.{Scale}
+use Rattle.frac128.specs.declared.problem.Cert.{Cert}
 use Rattle.value_scale.specs.GapSums.{checked_values}
 use Rattle.value_scale.specs.declared.fault.ScaleFault.{ScaleFault}
 use Rattle.value_scale.specs.declared.fault.ScaleFault.TheVariants as fault
@@ -135,3 +142,38 @@ abbrev pub IsGapOfOne : List Fraction → Result Gap ScaleFault → Type 0
 IsGapOfOne anchored (Ok gap) = gap ≡ gap_of_one anchored
 IsGapOfOne anchored (Err fault.TooWide) = ⊥
 IsGapOfOne anchored (Err fault.NoMemory) = Unit {0}
+
+-- ---- an element and itself, where no anchored scale is at hand
+
+-- the criterion has an anchored scale, whose span is within the reach
+pub record HasAnchoredScale (c : CriterionState) : Type 0 where
+  pub least : List ℤ
+  pub den : ℤ
+  pub is_least : IsLeastScale c.matrix least den
+  pub anchored : List ℤ
+  pub over : ℤ
+  pub is_anchored : IsAnchoredScale least den c.good c.neutral anchored over
+  pub reached : difference anchored 1 c.matrix.size ≤ℤ (pos c.reach *ℤ over)
+
+-- the basic scale of the matrix is so answered for some count
+abbrev pub IsBasicAnswer : Judgements → Result Basic ScaleFault → Type 0
+IsBasicAnswer m answer = (before : ℕ) × ((after : ℕ) × IsFound m before answer after)
+
+-- the anchoring of the least scale's values gives this
+pub record IsAnchoring (c : CriterionState) (worked : Result (List Fraction) Wide) : Type 0 where
+  pub values : List Fraction
+  pub cert : Cert
+  pub basic : IsBasicAnswer c.matrix (Ok (Scale values cert))
+  pub are : checked_anchor values c.good c.neutral ≡ worked
+
+-- the anchored scale; it is too wide exactly where the basic scale is, or its anchoring
+abbrev pub IsAnchoredAnswer : {V : Type 0} → (V → List Fraction) → CriterionState → Result V ScaleFault → Type 0
+IsAnchoredAnswer items c (Ok v) = IsAnchoring c (Ok (items v))
+IsAnchoredAnswer items c (Err fault.TooWide) = IsBasicAnswer c.matrix (Err fault.TooWide) ⊎ IsAnchoring c (Err (record {}))
+IsAnchoredAnswer items c (Err fault.NoMemory) = Unit {0}
+
+-- what is answered for an element and itself
+abbrev pub IsOwnGap : CriterionState → Result Gap ScaleFault → Type 0
+IsOwnGap c (Ok gap) = (anchored : List Fraction) × (IsAnchoring c (Ok anchored) × (gap ≡ gap_of_one anchored))
+IsOwnGap c (Err fault.TooWide) = IsBasicAnswer c.matrix (Err fault.TooWide) ⊎ IsAnchoring c (Err (record {}))
+IsOwnGap c (Err fault.NoMemory) = Unit {0}

@@ -9,7 +9,7 @@ use Rattle.lp_macbeth.specs.ClosedTranslated.{IsClosedCarried}
 use Rattle.lp_macbeth.proofs.ClosedRowLemmas.{IsCost-closed}
 use Rattle.open_dominance.specs.Gap.{checked_gap}
 use Rattle.open_dominance.proofs.GapLemmas.{gaps_are_there, references_fit, least_difference}
-use Rattle.open_dominance.proofs.least_gap.gap_of_point.Goals as goal
+use Rattle.open_dominance.proofs.closed_gap.gap_of_point.Goals as goal
 
 pub slice_bounds-gaps-length : goal.slice_bounds-gaps-length
 slice_bounds-gaps-length c =

@@ -107,8 +107,8 @@ fn gap_of_outcome(
     }
 }
 
-// The least gap of two elements that aren't one.
-fn gap_apart(
+/// The least gap of two elements that aren't one.
+pub(crate) fn gap_apart(
     alloc: Global,
     criterion: &Criterion,
     a: usize,
@@ -131,8 +131,8 @@ fn gap_apart(
     }
 }
 
-// The gap of an element and itself.
-fn gap_of_one(alloc: Global, anchored: &[Frac]) -> Result<Gap, ScaleFault>
+/// The gap of an element and itself, on this scale.
+pub(crate) fn gap_of_one(alloc: Global, anchored: &[Frac]) -> Result<Gap, ScaleFault>
     ensures { IsGapOfOne anchored.now result }
 {
     let scale = Vec::from_slice(alloc, anchored)?;

@@ -1,6 +1,6 @@
 use Rattle.open_dominance.specs.Gap.{gap_form}
 use Rattle.open_dominance.proofs.GapLemmas.{found_by, run_found}
-use Rattle.open_dominance.proofs.least_gap.gap_apart.Goals as goal
+use Rattle.open_dominance.proofs.closed_gap.gap_apart.Goals as goal
 
 pub returns-in-Ok-clause-found : goal.returns-in-Ok-clause-found
 returns-in-Ok-clause-found c =

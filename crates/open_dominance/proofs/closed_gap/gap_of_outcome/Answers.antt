@@ -3,7 +3,7 @@ use Rattle.judgement_matrix.specs.Matrix.{IsMatrix}
 use Rattle.lex_simplex.specs.Answer.{IsOutcome}
 use Rattle.open_dominance.specs.Gap.{gap_form}
 use Rattle.open_dominance.proofs.GapLemmas.{references_fit, form_has_points}
-use Rattle.open_dominance.proofs.least_gap.gap_of_outcome.Goals as goal
+use Rattle.open_dominance.proofs.closed_gap.gap_of_outcome.Goals as goal
 
 pub unreachable-requires : goal.unreachable-requires
 unreachable-requires c =
