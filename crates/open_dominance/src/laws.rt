@@ -63,7 +63,8 @@ pub fn weights_of_scales_are_open()
 /// place of the last element. It does nothing.
 pub fn closed_scales_are_of_the_closure()
     ensures closed { (m : Judgements) (refs : References) (w : List ℤ) (r n : ℤ)
-        → IsPair m.size refs.good refs.neutral → IsClosedScale m refs.good refs.neutral refs.reach w r n
+        → IsPair m.size refs.good refs.neutral
+        → IsClosedScale m refs.good refs.neutral refs.reach w r n
         → IsClosureScale m refs (lowered w refs.neutral) n }
     ensures scales { (m : Judgements) (refs : References) (v : List ℤ) (n : ℤ)
         → IsPair m.size refs.good refs.neutral → IsClosureScale m refs v n
@@ -72,7 +73,8 @@ pub fn closed_scales_are_of_the_closure()
 
 /// States that the weightings of the closure are those of the points of the weighting's closed problem. It does nothing.
 pub fn closed_weightings_are_of_the_closure()
-    ensures { (m : Judgements) (k : List ℤ) (n : ℤ) → IsClosedWeighting m k n ↔ IsClosureWeighting m k n }
+    ensures { (m : Judgements) (k : List ℤ) (n : ℤ)
+        → IsClosedWeighting m k n ↔ IsClosureWeighting m k n }
 {}
 
 // ---- dominance
@@ -80,7 +82,8 @@ pub fn closed_weightings_are_of_the_closure()
 /// States that where open points exist, leads dominate exactly where they do over the closures, and exactly where the least weighted
 /// sum of the least leads is at least 0. It does nothing.
 pub fn leads_are_decided_by_least_sums()
-    ensures closures { (m : Judgements) (cs : List Ground) (ls : List (List ℤ)) → HaveOpenPoints m cs
+    ensures closures { (m : Judgements) (cs : List Ground) (ls : List (List ℤ))
+        → HaveOpenPoints m cs
         → LeadsDominate m cs ls ↔ HasClosedLead m cs (leads_over ls) }
     ensures least { (m : Judgements) (cs : List Ground) (ls : List (List ℤ)) (gs : List ℤ) (n g d : ℤ)
         → HaveOpenPoints m cs → AreLeastLeads cs ls gs n → IsLeastSum m gs g d
@@ -91,7 +94,8 @@ pub fn leads_are_decided_by_least_sums()
 /// fall along it. It does nothing.
 pub fn sums_along_the_order_decide()
     ensures { (m : Judgements) (cs : List Ground) (ls : List (List ℤ)) (gs : List ℤ) (n : ℤ)
-        → AreLeastLeads cs ls gs n → AreNonNegative (running_sums (pos 0) gs) → LeadsDominate m cs ls }
+        → AreLeastLeads cs ls gs n → AreNonNegative (running_sums (pos 0) gs)
+        → LeadsDominate m cs ls }
 {}
 
 /// States that where open points exist, an option dominates another exactly where it does over the closures. It does nothing.
@@ -103,7 +107,8 @@ pub fn options_dominate_over_closures()
 /// States that where open points exist, an option dominates another exactly where no weighting of the closure gives the least gaps of
 /// their elements a sum below 0; criteria stand in the order of the weighting. It does nothing.
 pub fn least_gaps_decide_dominance()
-    ensures { (m : Judgements) (xs : List Compared) (g : List ℤ) (d : ℤ) → HaveOpenPoints m (grounds xs)
+    ensures { (m : Judgements) (xs : List Compared) (g : List ℤ) (d : ℤ)
+        → HaveOpenPoints m (grounds xs)
         → AllByRecursion IsLeastCompared xs → IsWriting (leasts xs) g d
         → Dominates m (grounds xs) (uppers xs) (lowers xs) ↔ HasNoSumBelow m g }
 {}
@@ -119,7 +124,8 @@ pub fn dominance_is_a_preorder()
 /// States that the share of a counterexample is above 0 and at most 1, and that the value of its mixture is below 0 as the optimum's
 /// is. It does nothing.
 pub fn shares_keep_below_zero()
-    ensures share { (g h : Fraction) → IsFraction g → IsFraction h → g.num <ℤ pos 0 → IsShare (share g h) }
+    ensures share { (g h : Fraction) → IsFraction g → IsFraction h → g.num <ℤ pos 0
+        → IsShare (share g h) }
     ensures below { (g h : Fraction) → IsFraction g → IsFraction h → g.num <ℤ pos 0
         → (mixed_value g h (share g h)).num <ℤ pos 0 }
 {}
