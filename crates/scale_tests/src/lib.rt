@@ -5,6 +5,8 @@
 #[cfg(test)]
 mod certificates;
 #[cfg(test)]
+mod closed;
+#[cfg(test)]
 mod problems;
 #[cfg(test)]
 mod weightings;

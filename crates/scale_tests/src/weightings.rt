@@ -54,7 +54,7 @@ fn unjudged(
 }
 
 // The first of three is judged over the second, and the second over the last.
-fn judged(alloc: Global, first: u8, second: u8) -> Result<Matrix, Fail>
+pub(crate) fn judged(alloc: Global, first: u8, second: u8) -> Result<Matrix, Fail>
     ensures { IfOk result (λ matrix. matrix.size ≡ 3) }
 {
     let mut matrix = Matrix::new(alloc, 3)?;

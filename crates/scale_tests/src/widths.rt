@@ -1,16 +1,16 @@
-ghost use Rattle.std.specs.Prelude.{◌≡◌, ◌≤◌};
+ghost use Rattle.std.specs.Prelude.{◌≡◌, ◌≤◌, IfOk};
 ghost use Rattle.judgement_matrix.specs.Values.{AreValues};
 ghost use Rattle.swing_weights.specs.Weights.{AreFalling};
 
 use crate::weightings::{HALF, WORD, made};
 use frac128::problem::Cert;
 use frac128::{Frac, List, TooWide};
-use judgement_matrix::{Fit, Matrix};
+use judgement_matrix::{Fit, Matrix, Range};
 use std::alloc::Global;
 use std::test::Fail;
 use swing_weights::{WeightFault, score, weights};
 use value_scale::laws::met_values_never_rise;
-use value_scale::{AnchorFault, Basic, ScaleFault, anchor, values_of_gaps};
+use value_scale::{AnchorFault, Basic, ScaleFault, anchor, slack, values_of_gaps};
 
 // Why a scale that meets the matrix has no anchored one.
 fn fault_of(alloc: Global, matrix: &Matrix, values: &[Frac]) -> Result<Option<AnchorFault>, Fail>
@@ -113,4 +113,40 @@ fn values_by_gaps(rt: HostRuntime) {
     let sums = [Frac::whole(3), one, Frac::whole(0)];
     assert!(rt; make_values(rt.alloc(), &[one, Frac::whole(2)], Some(&sums)));
     assert!(rt; make_values(rt.alloc(), &[one, Frac::whole(i128::MAX)], None));
+}
+
+// Two judged pairs of five elements: the first over the second by weak or more, the fourth over the last by very weak at most.
+fn unlike_pairs(alloc: Global) -> Result<Matrix, Fail>
+    ensures { IfOk result (λ matrix. matrix.size ≡ 5) }
+{
+    let mut matrix = Matrix::new(alloc, 5)?;
+    matrix.set(1, 2, Range::make(2, 6).ok_or("no category")?);
+    matrix.set(4, 5, Range::make(0, 1).ok_or("no category")?);
+    Ok(matrix)
+}
+
+// Whether the first element's slack is too wide, of values that meet the matrix.
+fn is_too_wide_a_slack(matrix: &Matrix, values: &[Frac]) -> Result<bool, Fail>
+    requires values { AreValues matrix.now values.now }
+    requires size { matrix.now.size ≡ 5 }
+{
+    if matrix.meets(values) != Ok(Fit::Meets) {
+        return Err(Fail::from("the scale doesn't meet the matrix"));
+    }
+    Ok(slack(matrix, values, 1) == Err(TooWide))
+}
+
+// The first value can fall to 3 + 1/(2^64 + 1) + 1/(2^64 - 1), where its pair just exceeds the last one by the category between them.
+#[test]
+fn too_wide_a_slack(rt: HostRuntime) -> Result<(), Fail> {
+    let matrix = unlike_pairs(rt.alloc())?;
+    let values = [
+        made(5 * (WORD + 1) + 1, WORD + 1)?,
+        made(2 * (WORD + 1) + 1, WORD + 1)?,
+        Frac::whole(1),
+        made(1, WORD - 1)?,
+        Frac::whole(0),
+    ];
+    assert!(rt; is_too_wide_a_slack(&matrix, &values)?);
+    Ok(())
 }
